@@ -1,0 +1,18 @@
+-- Bytes of a list at a place, whatever the place: 0 past the end.
+use Prim.Native.Nat.{ℕ, _+_, _-_, _*_}
+use mathlib.Core.Bool.{Bool, true, false}
+use mathlib.Core.List.{List}
+use lib.ListN.{length, getD}
+use Rattle.laws.specs.Choice.{if_then_else_, _≤?_}
+
+-- the byte at a place
+abbrev pub byteAt : List ℕ → ℕ → ℕ
+byteAt s at = getD s at 0
+
+-- the two bytes at a place as a number, low byte first
+unfoldable pub wordAt : List ℕ → ℕ → ℕ
+wordAt s at = byteAt s at + 256 * byteAt s (at + 1)
+
+-- whether n bytes stand at a place of a list of so many
+unfoldable pub room : ℕ → ℕ → ℕ → Bool
+room len at n = if at ≤? len then n ≤? (len - at) else false

@@ -1,0 +1,34 @@
+// What every crate uses and what knows nothing of menus: accessors of byte slices that are total,
+// and in specs/ and proofs/ the choice, parts, overwriting and digits with their laws.
+ghost use mathlib.Core.Path.{_≡_};
+ghost use Prim.Native.Nat.{_<_};
+ghost use lib.ListN.{length};
+ghost use Rattle.laws.specs.Bytes.{byteAt, wordAt, room};
+
+// The byte at a place, 0 past the end.
+pub fn byte_at(s: &[u8], at: usize) -> u8
+    ensures { λ r. ⌜ r ≡ byteAt (now (s .entry)) at ⌝ }
+{
+    if at < s.len() { s[at] } else { 0 }
+}
+
+// The two bytes at a place, low byte first, 0 past the end.
+pub fn word_at(s: &[u8], at: usize) -> u16
+    ensures { λ r. ⌜ r ≡ wordAt (now (s .entry)) at ⌝ }
+{
+    if at < s.len() {
+        (byte_at(s, at) as u16) + 256 * (byte_at(s, at + 1) as u16)
+    } else {
+        0
+    }
+}
+
+// Whether n bytes stand at a place.
+pub fn room(s: &[u8], at: usize, n: usize) -> bool
+    ensures { λ r. ⌜ r ≡ room (length (now (s .entry))) at n ⌝ }
+{
+    if at <= s.len() {
+        return n <= s.len() - at;
+    }
+    false
+}
