@@ -56,12 +56,6 @@ module _ {A : Type 0} where
   pub if-gt : (a b : ℕ) (x y : A) → b < a → (if a ≤? b then x else y) ≡ y
   if-gt a b x y h = if-false x y (lt-leb a b h)
 
--- turn the facts of a branch into the tests of a definition
-pub ruleset tests = (lt-ltb, le-ltb, le-leb, lt-leb, eq-eqb, ne-eqb)
-
--- settle the choices of a definition by the facts of a branch and by what callees ensure
-pub ruleset choices = (if-eq, if-ne, if-lt, if-ge, if-le, if-gt, if-true, if-false, via, lt-via, le-via)
-
 -- a conjunction, and its parts
 pub and-i : {a b : Bool} → a ≡ true → b ≡ true → a and b ≡ true
 unfolding _and_
@@ -76,6 +70,21 @@ pub and-r : (a b : Bool) → a and b ≡ true → b ≡ true
 unfolding _and_
 and-r true b e = e
 and-r false b e = absurd (false≢true e)
+
+-- a conjunction whose first part is settled
+pub and-true : {a : Bool} (b : Bool) → a ≡ true → a and b ≡ b
+unfolding _and_
+and-true b h = rw h
+
+pub and-false : {a : Bool} (b : Bool) → a ≡ false → a and b ≡ false
+unfolding _and_
+and-false b h = rw h
+
+-- turn the facts of a branch into the tests of a definition
+pub ruleset tests = (lt-ltb, le-ltb, le-leb, lt-leb, eq-eqb, ne-eqb)
+
+-- settle the choices and conjunctions of a definition by the facts of a branch and by what callees ensure
+pub ruleset choices = (if-eq, if-ne, if-lt, if-ge, if-le, if-gt, if-true, if-false, and-true, and-false, tests, via, lt-via, le-via)
 
 -- a number chosen by a test is between what bounds both
 pub if-max : (t : Bool) {x y m : ℕ} → x ≤ m → y ≤ m → (if t then x else y) ≤ m

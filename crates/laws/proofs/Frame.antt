@@ -75,6 +75,11 @@ module _ (at : ℕ) (b s : List ℕ) where
       → take at s ++ (t ++ drop (length s - at) (drop at s)) ≡ putAt at b s
   put-tail t h e = tail-back at s t ∙ ap (λ (l : List ℕ). take at s ++ l) (e ∙ rw part-tail) ∙ put-lent h
 
+-- b written at the start of p
+pub put-fits : (b p : List ℕ) → length b ≤ length p → putAt 0 b p ≡ b ++ drop (length b) p
+unfolding putAt
+put-fits b p h = rw (if-le (0 + length b) (length p) _ _ (omega arith), zero-add)
+
 -- a turn of the loop that writes b at the start of p
 pub put-turn : (b p : List ℕ) (j : ℕ) → j < length b → j < length p
     → set (take j b ++ drop j p) j (getD b j 0) ≡ take (j + 1) b ++ drop (j + 1) p

@@ -4,10 +4,13 @@ use mathlib.Core.Path.{_≡_, refl, sym, ap, _∙_}
 use mathlib.Core.List.{List, [], _∷_, _++_, append-nil}
 use native.Mathlib.Omega.{arith}
 use native.Mathlib.Nat.{zero-add, suc-add, le-of-suc-le-suc, not-suc-le-zero}
-use lib.ListN.{length, take, drop, getD, set, length-drop, length-set, drop-of-length-le, List·getD-eq-default, List·getD-append}
-use lib.Seq.{take-nil, drop-nil, take-take, drop-drop, take-all, drop-cons, getD-set-same, drop-set-lt}
+use lib.ListN.{length, take, drop, getD, set, length-take, length-drop, length-set, drop-of-length-le, List·getD-eq-default, List·getD-append}
+use lib.Seq.{take-nil, drop-nil, take-take, drop-drop, take-all, drop-cons, getD-take, getD-drop, getD-set-same, drop-set-lt}
+use borrow.Author.Tests.{ltb-true, ltb-false}
+use Rattle.laws.specs.Choice.{if_then_else_, _<?_}
 use Rattle.laws.specs.Bytes.{byteAt, wordAt}
 use Rattle.laws.specs.Parts.{partAt}
+use Rattle.laws.proofs.Cases.{by-test, if-lt, if-ge}
 
 -- past the end
 pub byte-past : (s : List ℕ) (at : ℕ) → length s ≤ at → byteAt s at ≡ 0
@@ -45,6 +48,15 @@ pub part-after : (at n e : ℕ) (l m : List ℕ) → e ≤ at → drop e l ≡ d
 part-after at n e l m h q =
     let s : e + (at - e) ≡ at = omega arith in
     rw (← s, ← drop-drop (at - e) e l, ← drop-drop (at - e) e m, q)
+
+-- an element of a part: 0 past its end
+pub part-at : (at n i : ℕ) (s : List ℕ) → getD (partAt at n s) i 0 ≡ (if i <? n then getD s (at + i) 0 else 0)
+part-at at n i s =
+    by-test (i <? n)
+    (λ e. let h = ltb-true i n e in rw (getD-take n (drop at s) i 0 h, getD-drop, if-lt i n (getD s (at + i) 0) 0 h))
+    (λ e.
+    let h = ltb-false i n e in
+    rw (if-ge i n (getD s (at + i) 0) 0 h) (List·getD-eq-default (partAt at n s) 0 {n = i} (omega (arith, length-take n (drop at s)))))
 
 -- a part from a place to the end: what is lent, and the whole once it is back
 pub part-tail : (at : ℕ) (s : List ℕ) → take (length s - at) (drop at s) ≡ drop at s

@@ -2,12 +2,17 @@
 use Prim.Native.Nat.{ℕ, zero, suc, _+_, _-_, _*_, _/_, _%_, _^_, _<_, _≤_}
 use mathlib.Core.Path.{_≡_, refl, sym, ap, _∙_}
 use mathlib.Core.List.{List, [], _∷_, _++_, reverse, reverseAux, reverse-append, reverse-cons, reverse-reverse}
-use native.Mathlib.Nat.{div-add-mod', div-lt-iff-lt-mul, mod-lt, pow-suc, pow-succ', pow-zero, pow-le-pow-right, mul-le-mul-right, mul-assoc, lt-of-lt-of-le, mul-add-div-right, mul-add-mod-self-right, div-eq-of-lt, mod-eq-of-lt, add-zero}
+use native.Mathlib.Nat.{div-add-mod', div-lt-iff-lt-mul, mod-lt, pow-suc, pow-succ', pow-zero, pow-le-pow-right, mul-le-mul-right, mul-assoc, lt-of-lt-of-le, mul-add-div-right, mul-add-mod-self-right, div-eq-of-lt, mod-eq-of-lt, add-zero, div-one, div-div-eq-div-mul}
 use native.Mathlib.Numerals.{add-one}
 use native.Mathlib.Omega.{arith}
-use lib.ListN.{length, take, drop, getD, length-append, length-drop}
+use lib.ListN.{length, take, drop, set, getD, length-append, length-drop}
 use lib.Seq.{take-suc, take-all, getD-drop, length-take-le}
+use borrow.Author.Tests.{ltb-true, ltb-false}
+use Rattle.laws.specs.Choice.{if_then_else_, _<?_}
+use Rattle.laws.specs.Overwrite.{over}
 use Rattle.laws.specs.Digits.{digitsOf, numberFrom, lowFirst, fromLow}
+use Rattle.laws.proofs.Cases.{by-test, if-lt, if-ge}
+use Rattle.laws.proofs.Pen.{over-snoc}
 
 pub number-snoc : (b a : ℕ) (ds : List ℕ) (d : ℕ) → numberFrom b a (ds ++ (d ∷ [])) ≡ numberFrom b a ds * b + d
 unfolding numberFrom
@@ -98,6 +103,16 @@ pub number-turn : (b s i : ℕ) (a : List ℕ) → s + i < length a
 number-turn b s i a h =
     sym (rw (add-one, take-suc (drop s a) i 0 (simp length-drop (omega arith)), number-snoc, getD-drop))
 
+-- a turn of the loop that writes digits, the last one first
+pub digits-turn : (s b i x : ℕ) (a : List ℕ) → 0 < i → s + i ≤ length a
+    → over (set a (s + (i - 1)) (x % b)) s (digitsOf b (i - 1) (x / b)) ≡ over a s (digitsOf b i x)
+unfolding digitsOf
+digits-turn s b zero x a h p = absurd (omega arith)
+digits-turn s b (suc n) x a h p =
+    let e : suc n - 1 ≡ n = omega arith in
+    let l = length-digits b n (x / b) in
+    rw e (rw l at (over-snoc a s (x % b) (digitsOf b n (x / b)) (omega (arith, l))))
+
 -- what is read of cells below 2 ^ 32 stays below 2 ^ 64 while the base's power is at most 2 ^ 32
 pub number-bound : (n b d i : ℕ) → n + 4294967295 ≤ 4294967295 * b ^ i → 2 ≤ b → d < 4294967296 → n * b + d + 4294967295 ≤ 4294967295 * b ^ (i + 1)
 number-bound n b d i h hb hd =
@@ -113,6 +128,12 @@ turn-fits n b d i count h hb hi hc hd =
     omega (arith, number-bound n b d i h hb hd)
 
 -- ---- bytes, lowest first
+
+suc-test : (i n x y : ℕ) → (if i <? n then x else y) ≡ (if suc i <? suc n then x else y)
+suc-test i n x y =
+    by-test (i <? n)
+    (λ e. let h = ltb-true i n e in rw (if-lt i n x y h) (sym (if-lt (suc i) (suc n) x y (omega arith))))
+    (λ e. let h = ltb-false i n e in rw (if-ge i n x y h) (sym (if-ge (suc i) (suc n) x y (omega arith))))
 
 pub low-suc : (n x : ℕ) → lowFirst (suc n) x ≡ x % 256 ∷ lowFirst n (x / 256)
 unfolding lowFirst digitsOf
@@ -135,6 +156,13 @@ pub low-of-number : (bs : List ℕ) → Below 256 bs → lowFirst (length bs) (f
 unfolding fromLow lowFirst
 low-of-number bs h =
     rw (digits-of-number 256 (length bs) (reverse bs) (omega (arith, length-aux bs [])) (below-reverse 256 bs h)) (reverse-reverse bs)
+
+-- a byte of a number; those past its count are 0
+pub low-at : (n x i : ℕ) → getD (lowFirst n x) i 0 ≡ (if i <? n then x / 256 ^ i % 256 else 0)
+unfolding lowFirst digitsOf
+low-at zero x i = sym (if-ge i 0 _ _ (omega arith))
+low-at (suc n) x zero = rw (low-suc n x, if-lt 0 (suc n) (x / 256 ^ 0 % 256) 0 (omega arith), pow-zero, div-one)
+low-at (suc n) x (suc i) = rw (low-suc n x, low-at n (x / 256) i, div-div-eq-div-mul, ← pow-succ' 256 i) (suc-test i n _ _)
 
 -- at most four bytes are read one by one
 pub four-low : (bs : List ℕ) → length bs ≤ 4

@@ -108,3 +108,12 @@ unfolding over fit
 over-blank b zero s = refl
 over-blank b (suc n) [] = refl
 over-blank b (suc n) (x ∷ s) = ap (λ (r : List ℕ). x ∷ r) (over-blank b n s)
+
+-- four elements, one by one
+pub fit-four : (b : ℕ) (s : List ℕ) → fit b 4 s ≡ getD s 0 b ∷ getD s 1 b ∷ getD s 2 b ∷ getD s 3 b ∷ []
+unfolding fit
+fit-four b [] = refl
+fit-four b (x ∷ []) = refl
+fit-four b (x ∷ y ∷ []) = refl
+fit-four b (x ∷ y ∷ z ∷ []) = refl
+fit-four b (x ∷ y ∷ z ∷ w ∷ s) = refl

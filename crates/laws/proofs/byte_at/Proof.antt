@@ -1,20 +1,16 @@
+-- What the callees ensure, put together.
 use mathlib.Core.Path.{sym}
 use Rattle.laws.proofs.Lists.{byte-past}
 use borrow.Author.Needs.{needs}
 use Rattle.laws.proofs.byte_at.Statement.{statement}
 use Rattle.laws.proofs.byte_at.Tie as tie
-use Rattle.laws.proofs.byte_at.Reads as reads
-use Rattle.laws.proofs.byte_at.Lts as lts
 
--- src/lib.rt:12:23
 shared-slice-read-result : tie.Need-shared-slice-read-result
 shared-slice-read-result c = search needs
 
--- src/lib.rt:9:1
 returns : tie.Need-returns
 returns c = search needs
 
--- src/lib.rt:9:1
 returns-2 : tie.Need-returns-2
 returns-2 c = sym (byte-past (c .before .args .s .now) (c .before .args .at) (c .if1 .left))
 

@@ -1,22 +1,18 @@
+-- Each return is the case of the definition that the tests on its path choose.
 use native.Mathlib.Omega.{arith}
 use Rattle.laws.specs.Bytes.{room}
 use Rattle.laws.proofs.Cases.{choices}
 use borrow.Author.Needs.{needs}
 use Rattle.laws.proofs.room.Statement.{statement}
 use Rattle.laws.proofs.room.Tie as tie
-use Rattle.laws.proofs.room.Reads as reads
-use Rattle.laws.proofs.room.Lts as lts
 
--- src/lib.rt:31:21
 sub-result : tie.Need-sub-result
 sub-result c = search needs
 
--- src/lib.rt:31:9
 returns : tie.Need-returns
 unfolding room
 returns c = search (choices, arith)
 
--- src/lib.rt:27:1
 returns-2 : tie.Need-returns-2
 unfolding room
 returns-2 c = search (choices, arith)

@@ -1,0 +1,54 @@
+-- Cells padded with 0: a sign and digits written onto blank cells, and a value's four bytes.
+use Prim.Native.Nat.{ℕ, zero, suc, _+_, _/_, _%_, _≤_}
+use mathlib.Core.Path.{_≡_, refl, ap, _∙_}
+use mathlib.Core.List.{List, [], _∷_}
+use mathlib.Core.Bool.{Bool}
+use native.Mathlib.Omega.{arith}
+use lib.ListN.{getD, set, replicate}
+use Rattle.laws.specs.Choice.{if_then_else_, _and_, _<?_}
+use Rattle.laws.specs.Parts.{partAt}
+use Rattle.laws.specs.Overwrite.{over, fit}
+use Rattle.laws.specs.Digits.{lowFirst}
+use Rattle.laws.specs.Bytes.{byteAt}
+use Rattle.laws.proofs.Pen.{over-blank, fit-at, fit-four}
+use Rattle.laws.proofs.Lists.{part-at}
+use Rattle.laws.proofs.Numerals.{low-at}
+use native.Mathlib.Nat.{div-one, add-zero}
+use Rattle.field.specs.Table.{cellOf, profileOf}
+use Rattle.field.specs.Cells.{within, legalTo, legal}
+use Rattle.field.specs.declared.kind.Kind.{Kind}
+use Rattle.field.proofs.Bounds.{profile-cells}
+
+-- digits written onto blank cells
+pub plain-cells : (ds : List ℕ) → over (replicate 32 0) 0 ds ≡ fit 0 32 ds
+unfolding fit
+plain-cells ds = over-blank 0 32 ds
+
+-- a sign, then digits
+pub signed-cells : (y : ℕ) (ds : List ℕ) → over (set (replicate 32 0) 0 y) 1 ds ≡ fit 0 32 (y ∷ ds)
+unfolding over fit
+signed-cells y ds = ap (λ (l : List ℕ). y ∷ l) (over-blank 0 31 ds)
+
+-- padding does not change what the cells are
+legal-to-padded : (k : Kind) (cs : List ℕ) (n : ℕ) → n ≤ 32 → legalTo k (fit 0 32 cs) n ≡ legalTo k cs n
+unfolding legalTo
+legal-to-padded k cs zero h = refl
+legal-to-padded k cs (suc n) h =
+    rw (legal-to-padded k cs n (omega arith), fit-at 0 32 cs n (omega arith))
+
+pub legal-padded : (k : Kind) (cs : List ℕ) → legal k (fit 0 32 cs) ≡ legal k cs
+unfolding legal
+legal-padded k cs = legal-to-padded k cs (profileOf k .cells) (profile-cells k)
+
+-- a value read byte by byte
+pub part-four : (at n : ℕ) (s : List ℕ) → fit 0 4 (partAt at n s)
+    ≡ (if 0 <? n then byteAt s at else 0) ∷ (if 1 <? n then byteAt s (at + 1) else 0)
+    ∷ (if 2 <? n then byteAt s (at + 2) else 0) ∷ (if 3 <? n then byteAt s (at + 3) else 0) ∷ []
+part-four at n s =
+    fit-four 0 (partAt at n s) ∙ rw (part-at at n 0 s, part-at at n 1 s, part-at at n 2 s, part-at at n 3 s, add-zero)
+
+-- a value made byte by byte
+pub low-four : (n x : ℕ) → fit 0 4 (lowFirst n x)
+    ≡ (if 0 <? n then x % 256 else 0) ∷ (if 1 <? n then x / 256 % 256 else 0)
+    ∷ (if 2 <? n then x / 65536 % 256 else 0) ∷ (if 3 <? n then x / 16777216 % 256 else 0) ∷ []
+low-four n x = fit-four 0 (lowFirst n x) ∙ rw (low-at n x 0, low-at n x 1, low-at n x 2, low-at n x 3, div-one)

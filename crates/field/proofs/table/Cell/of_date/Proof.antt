@@ -1,0 +1,48 @@
+-- Each return is the case of the definition that the tests on its path choose.
+use native.Mathlib.Omega.{arith}
+use Rattle.laws.proofs.Cases.{choices}
+use Rattle.field.specs.Table.{cellOf}
+use borrow.Author.Needs.{needs}
+use Rattle.field.proofs.table.Cell.of_date.Statement.{statement}
+use Rattle.field.proofs.table.Cell.of_date.Tie as tie
+
+ends-requires : tie.Need-ends-requires
+ends-requires c κs = search needs
+
+returns : tie.Need-returns
+unfolding cellOf
+returns c = search (choices, arith)
+
+ends-requires-2 : tie.Need-ends-requires-2
+ends-requires-2 c κs = search needs
+
+returns-2 : tie.Need-returns-2
+unfolding cellOf
+returns-2 c = search (choices, arith)
+
+ends-requires-3 : tie.Need-ends-requires-3
+ends-requires-3 c κs = search needs
+
+returns-3 : tie.Need-returns-3
+unfolding cellOf
+returns-3 c = search (choices, arith)
+
+ends-requires-4 : tie.Need-ends-requires-4
+ends-requires-4 c κs = search needs
+
+returns-4 : tie.Need-returns-4
+unfolding cellOf
+returns-4 c = search (choices, arith)
+
+pub of-date-spec : {M : Type 1} → statement M
+of-date-spec =
+    tie.close
+    (tie.spec
+    ends-requires
+    returns
+    ends-requires-2
+    returns-2
+    ends-requires-3
+    returns-3
+    ends-requires-4
+    returns-4)

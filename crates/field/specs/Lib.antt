@@ -1,0 +1,8 @@
+pub mod Formats
+pub mod Table
+pub mod Values
+pub mod Cells
+pub mod Sound
+pub mod Settings
+pub mod Keys
+pub mod Sheet

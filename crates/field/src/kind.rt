@@ -1,0 +1,71 @@
+// The kinds of field with the settings that section 7 gives them, and places.
+ghost use mathlib.Core.Path.{_≡_};
+ghost use Rattle.field.specs.Formats.{formatOf};
+
+// A place in the image, counted from 0.
+pub struct ImagePlace(pub usize);
+
+// A place in the sheet, counted from 0. The sheet is the paper's term for the bytes that hold a candidate's answers.
+pub struct SheetPlace(pub u16);
+
+// An integer's cells: two bytes or one, with a sign or without, to the base 16 or 10, and how many digits (more than five count as five).
+pub struct Format {
+    pub wide: bool,
+    pub signed: bool,
+    pub hex: bool,
+    pub digits: u8,
+}
+
+// A counter: its ends with 32,768 added, its step, and its width in cells.
+pub struct CounterSettings {
+    pub min: u16,
+    pub max: u16,
+    pub step: u16,
+    pub width: u8,
+}
+
+// The flag of a time or date: with seconds, or with four digits for the year. A switch has so many bits (more than 32 count as 32).
+pub enum Kind {
+    Integer(Format),
+    Counter(CounterSettings),
+    Time(bool),
+    Date(bool),
+    Switch(u8),
+    Option { items: u8, longest: u8 },
+    Trigger,
+}
+
+impl Format {
+    // How many codes of section 7 are integers: 0 to 10.
+    pub const CODES: u8 = 11;
+
+    // The format of an integer's code.
+    pub fn of_code(code: u8) -> Self
+        ensures { λ r. ⌜ r ≡ formatOf code ⌝ }
+    {
+        match code {
+            0 => Format::new(false, false, false, 2),
+            1 => Format::new(false, false, false, 3),
+            2 => Format::new(false, false, true, 2),
+            3 => Format::new(false, true, false, 2),
+            4 => Format::new(false, true, false, 3),
+            5 => Format::new(true, false, false, 3),
+            6 => Format::new(true, false, false, 4),
+            7 => Format::new(true, false, false, 5),
+            8 => Format::new(true, false, true, 4),
+            9 => Format::new(true, true, false, 3),
+            _ => Format::new(true, true, false, 4),
+        }
+    }
+
+    fn new(wide: bool, signed: bool, hex: bool, digits: u8) -> Self
+        ensures { λ r. ⌜ r ≡ record { wide = wide; signed = signed; hex = hex; digits = digits } ⌝ }
+    {
+        Format {
+            wide,
+            signed,
+            hex,
+            digits,
+        }
+    }
+}

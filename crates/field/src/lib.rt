@@ -1,0 +1,9 @@
+// What a field of a menu image is, without the image: kinds and settings, ranges, the cells of a visit, keys, bytes in the sheet.
+pub mod keys;
+pub mod kind;
+pub mod numeral;
+pub mod record;
+pub mod settings;
+pub mod table;
+pub mod value;
+pub mod work;

@@ -1,0 +1,173 @@
+// The working copy of a visit: from a field's bytes to cells and back, for every kind.
+ghost use mathlib.Core.Path.{_≡_};
+ghost use mathlib.Core.List.{[], _∷_};
+ghost use Prim.Native.Nat.{_<_};
+ghost use lib.ListN.{getD};
+ghost use Rattle.laws.specs.Choice.{_and_};
+ghost use Rattle.field.specs.Table.{cellOf};
+ghost use Rattle.field.specs.Cells.{biased, cellsOf, storedIn, showable, stores, within, legal, inRange, workOf, started, finished};
+use crate::kind::Kind;
+use crate::numeral::Numeral;
+use crate::table::cell_of;
+use crate::table::profile_of;
+use crate::value::Value;
+
+// The cells of a visit (a visit is the paper's term for one editing of a field), and the chosen cell.
+pub struct Work {
+    pub cells: [u32; 32],
+    pub at: u8,
+}
+
+fn bias(x: u64) -> u64
+    requires { ⌜ x < 4294967296 ⌝ }
+    ensures { λ r. ⌜ (r ≡ biased x) × (r < 65536) ⌝ }
+{
+    (x + 32768) % 65536
+}
+
+fn three(a: u32, b: u32, c: u32) -> Work
+    ensures { λ r. ⌜ r ≡ workOf (a ∷ b ∷ c ∷ []) ⌝ }
+{
+    let mut cells = [0; 32];
+    cells[0] = a;
+    cells[1] = b;
+    cells[2] = c;
+    Work { cells, at: 0 }
+}
+
+impl Work {
+    // The cells that show a number, the first one chosen.
+    pub fn showing(kind: Kind, x: u32) -> Self
+        ensures { λ r. ⌜ r ≡ workOf (cellsOf kind x) ⌝ }
+    {
+        match kind {
+            Kind::Integer(f) => f.numeral().in_digits(x as u64),
+            Kind::Counter(_) => three(bias(x as u64) as u32, 0, 0),
+            Kind::Time(_) => three(x % 256, x / 256 % 256, x / 65536 % 256),
+            Kind::Date(_) => three(x / 65536, x / 256 % 256, x % 256),
+            Kind::Switch(n) => Numeral::of_bits(n).in_digits(x as u64),
+            Kind::Option {
+                items: _,
+                longest: _,
+            } => three(x, 0, 0),
+            Kind::Trigger => three(0, 0, 0),
+        }
+    }
+
+    // A cell, 0 past the last.
+    pub fn cell(self, i: usize) -> u64
+        ensures { λ r. ⌜ (r ≡ getD (self .cells) i 0) × (r < 4294967296) ⌝ }
+    {
+        if i < 32 { self.cells[i] as u64 } else { 0 }
+    }
+
+    // The number that the cells stand for.
+    fn stored(self, kind: Kind) -> u64
+        ensures { λ r. ⌜ r ≡ storedIn kind (self .cells) ⌝ }
+    {
+        match kind {
+            Kind::Integer(f) => f.numeral().of_digits(self),
+            Kind::Counter(_) => bias(self.cell(0)),
+            Kind::Time(_) => self.cell(0) + 256 * self.cell(1) + 65536 * self.cell(2),
+            Kind::Date(_) => self.cell(2) + 256 * self.cell(1) + 65536 * self.cell(0),
+            Kind::Switch(n) => Numeral::of_bits(n).of_digits(self),
+            Kind::Option {
+                items: _,
+                longest: _,
+            } => self.cell(0),
+            Kind::Trigger => 0,
+        }
+    }
+
+    // Whether ENTER can store what the cells show.
+    pub fn stores(self, kind: Kind) -> bool
+        ensures { λ r. ⌜ r ≡ stores kind (self .cells) ⌝ }
+    {
+        match kind {
+            Kind::Integer(f) => f.numeral().storable(self),
+            Kind::Counter(_) => true,
+            Kind::Time(_) => true,
+            Kind::Date(_) => true,
+            Kind::Switch(_) => true,
+            Kind::Option {
+                items: _,
+                longest: _,
+            } => true,
+            Kind::Trigger => true,
+        }
+    }
+
+    fn also_within(self, kind: Kind, i: usize, ok: bool) -> bool
+        ensures { λ r. ⌜ r ≡ ok and within (cellOf kind i) (getD (self .cells) i 0) ⌝ }
+    {
+        let c = cell_of(kind, i);
+        let x = self.cell(i);
+        if ok {
+            if c.low as u64 <= x {
+                return x <= c.high as u64;
+            }
+            return false;
+        }
+        false
+    }
+
+    // Whether each cell is within its ends.
+    pub fn legal(self, kind: Kind) -> bool
+        ensures { λ r. ⌜ r ≡ legal kind (self .cells) ⌝ }
+    {
+        let count = profile_of(kind).cells as usize;
+        let mut ok = true;
+        let mut i = 0;
+        while i < count {
+            ok = self.also_within(kind, i, ok);
+            i = i + 1;
+        }
+        ok
+    }
+
+    // Where a visit starts: the value's cells, or the default's where the value is out of range.
+    pub fn start(kind: Kind, value: Value, default: Value) -> Self
+        ensures { λ r. ⌜ r ≡ started kind value default ⌝ }
+    {
+        let x = value.number();
+        if in_range(kind, x) {
+            return Work::showing(kind, x);
+        }
+        Work::showing(kind, default.number())
+    }
+
+    // The bytes that a finished visit stores.
+    pub fn finish(self, kind: Kind) -> Value
+        ensures { λ r. ⌜ r ≡ finished kind self ⌝ }
+    {
+        Value::from_number(profile_of(kind).bytes, self.stored(kind))
+    }
+}
+
+fn showable(kind: Kind, x: u32) -> bool
+    ensures { λ r. ⌜ r ≡ showable kind x ⌝ }
+{
+    match kind {
+        Kind::Integer(f) => f.numeral().spans(x as u64),
+        Kind::Counter(_) => true,
+        Kind::Time(_) => true,
+        Kind::Date(_) => true,
+        Kind::Switch(n) => Numeral::of_bits(n).spans(x as u64),
+        Kind::Option {
+            items: _,
+            longest: _,
+        } => true,
+        Kind::Trigger => true,
+    }
+}
+
+// Whether a number is in the range of its field.
+pub fn in_range(kind: Kind, x: u32) -> bool
+    ensures { λ r. ⌜ r ≡ inRange kind x ⌝ }
+{
+    let w = Work::showing(kind, x);
+    if showable(kind, x) {
+        return w.legal(kind);
+    }
+    false
+}
