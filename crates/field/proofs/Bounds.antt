@@ -1,5 +1,5 @@
 -- Bounds of the numbers in the tables, and that every numeral is sound: integers and switches are computed within them.
-use Prim.Native.Nat.{ℕ, _+_, _-_, _/_, _^_, _≤_, _<_, min}
+use Prim.Native.Nat.{ℕ, _/_, _^_, _≤_, _<_}
 use mathlib.Core.Path.{_≡_, refl}
 use mathlib.Core.Bool.{Bool, true, false}
 use native.Mathlib.Omega.{arith}
@@ -54,6 +54,15 @@ pub limit-ge : (f : Format) → 256 ≤ limitOf f
 unfolding limitOf
 limit-ge f = if-min (f .wide) (lit≤ tt) (lit≤ tt)
 
+-- as many numbers as the bytes have values
+pub limit-bytes : (f : Format) → limitOf f ≡ 256 ^ profileOf (Integer f) .bytes
+unfolding limitOf profileOf if_then_else_
+limit-bytes f = go (f .wide)
+  where
+    go : (t : Bool) → (if t then 65536 else 256) ≡ 256 ^ (if t then 2 else 1)
+    go true = refl
+    go false = refl
+
 -- the numbers for 0 and above are among all
 pub half-le : (f : Format) → halfOf f ≤ limitOf f
 unfolding halfOf
@@ -90,10 +99,11 @@ power-fits n =
 pub top-pos : (f : Format) → 0 < baseOf f ^ digitsIn f
 top-pos f = one-le-pow (digitsIn f) (baseOf f) (omega (arith, base-ge f))
 
+-- the bits can show 0
 pub power-pos : (n : ℕ) → 0 < 2 ^ bitsIn n
 power-pos n = one-le-pow (bitsIn n) 2 (lit≤ tt)
 
--- integers
+-- an integer's numeral is sound
 pub format-sound : (f : Format) → Sound (numeralOf f)
 unfolding topOf
 format-sound f =
@@ -110,7 +120,7 @@ format-sound f =
       plain = λ e. omega (arith, half-plain f e);
     }
 
--- switches
+-- and so is a switch's
 pub bits-sound : (n : ℕ) → Sound (bitsOf n)
 bits-sound n =
     record {

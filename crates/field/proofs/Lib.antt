@@ -1,3 +1,11 @@
 pub mod Bounds
 pub mod Padded
 pub mod Parts
+pub mod Kept
+pub mod Ranges
+pub mod Trip
+pub mod Entered
+pub mod Shown
+pub mod Apart
+pub mod Outcomes
+pub mod Starred

@@ -70,7 +70,7 @@ cellsOf Trigger x = 0 ∷ []
 unfoldable pub storedIn : Kind → List ℕ → ℕ
 storedIn (Integer f) cs = ofDigits (numeralOf f) cs
 storedIn (Counter s) cs = biased (getD cs 0 0)
-storedIn (Time long) cs = getD cs 0 0 + 256 * getD cs 1 0 + 65536 * getD cs 2 0
+storedIn (Time long) cs = getD cs 0 0 + 256 * getD cs 1 0 + (if long then 65536 * getD cs 2 0 else 0)
 storedIn (Date long) cs = getD cs 2 0 + 256 * getD cs 1 0 + 65536 * getD cs 0 0
 storedIn (Switch n) cs = ofDigits (bitsOf n) cs
 storedIn (Option n w) cs = getD cs 0 0

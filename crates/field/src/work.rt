@@ -1,9 +1,9 @@
 // The working copy of a visit: from a field's bytes to cells and back, for every kind.
 ghost use mathlib.Core.Path.{_≡_};
 ghost use mathlib.Core.List.{[], _∷_};
-ghost use Prim.Native.Nat.{_<_};
+ghost use Prim.Native.Nat.{_*_, _<_};
 ghost use lib.ListN.{getD};
-ghost use Rattle.laws.specs.Choice.{_and_};
+ghost use Rattle.laws.specs.Choice.{if_then_else_, _and_};
 ghost use Rattle.field.specs.Table.{cellOf};
 ghost use Rattle.field.specs.Cells.{biased, cellsOf, storedIn, showable, stores, within, legal, inRange, workOf, started, finished};
 use crate::kind::Kind;
@@ -61,6 +61,16 @@ impl Work {
         if i < 32 { self.cells[i] as u64 } else { 0 }
     }
 
+    // The third byte of a time, where it has seconds.
+    fn seconds(self, long: bool) -> u64
+        ensures { λ r. ⌜ (r ≡ if long then 65536 * getD (self .cells) 2 0 else 0) × (r < 281474976710656) ⌝ }
+    {
+        if long {
+            return 65536 * self.cell(2);
+        }
+        0
+    }
+
     // The number that the cells stand for.
     fn stored(self, kind: Kind) -> u64
         ensures { λ r. ⌜ r ≡ storedIn kind (self .cells) ⌝ }
@@ -68,7 +78,7 @@ impl Work {
         match kind {
             Kind::Integer(f) => f.numeral().of_digits(self),
             Kind::Counter(_) => bias(self.cell(0)),
-            Kind::Time(_) => self.cell(0) + 256 * self.cell(1) + 65536 * self.cell(2),
+            Kind::Time(long) => self.cell(0) + 256 * self.cell(1) + self.seconds(long),
             Kind::Date(_) => self.cell(2) + 256 * self.cell(1) + 65536 * self.cell(0),
             Kind::Switch(n) => Numeral::of_bits(n).of_digits(self),
             Kind::Option {

@@ -80,6 +80,12 @@ pub and-false : {a : Bool} (b : Bool) → a ≡ false → a and b ≡ false
 unfolding _and_
 and-false b h = rw h
 
+-- a conjunction whose second part holds
+pub and-second : (a : Bool) {b : Bool} → b ≡ true → a and b ≡ a
+unfolding _and_
+and-second true e = e
+and-second false e = refl
+
 -- turn the facts of a branch into the tests of a definition
 pub ruleset tests = (lt-ltb, le-ltb, le-leb, lt-leb, eq-eqb, ne-eqb)
 

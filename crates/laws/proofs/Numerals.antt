@@ -5,7 +5,7 @@ use mathlib.Core.List.{List, [], _∷_, _++_, reverse, reverseAux, reverse-appen
 use native.Mathlib.Nat.{div-add-mod', div-lt-iff-lt-mul, mod-lt, pow-suc, pow-succ', pow-zero, pow-le-pow-right, mul-le-mul-right, mul-assoc, lt-of-lt-of-le, mul-add-div-right, mul-add-mod-self-right, div-eq-of-lt, mod-eq-of-lt, add-zero, div-one, div-div-eq-div-mul}
 use native.Mathlib.Numerals.{add-one}
 use native.Mathlib.Omega.{arith}
-use lib.ListN.{length, take, drop, set, getD, length-append, length-drop}
+use lib.ListN.{length, take, drop, set, getD, length-append, length-drop, length-reverse}
 use lib.Seq.{take-suc, take-all, getD-drop, length-take-le}
 use borrow.Author.Tests.{ltb-true, ltb-false}
 use Rattle.laws.specs.Choice.{if_then_else_, _<?_}
@@ -148,14 +148,15 @@ pub number-of-low : (n x : ℕ) → x < 256 ^ n → fromLow (lowFirst n x) ≡ x
 unfolding fromLow lowFirst
 number-of-low n x h = rw reverse-reverse (number-of-digits 256 n x (omega arith) h)
 
-length-aux : (s t : List ℕ) → length (reverseAux s t) ≡ length s + length t
-length-aux [] t = omega arith
-length-aux (x ∷ s) t = omega (arith, length-aux s (x ∷ t))
-
 pub low-of-number : (bs : List ℕ) → Below 256 bs → lowFirst (length bs) (fromLow bs) ≡ bs
 unfolding fromLow lowFirst
 low-of-number bs h =
-    rw (digits-of-number 256 (length bs) (reverse bs) (omega (arith, length-aux bs [])) (below-reverse 256 bs h)) (reverse-reverse bs)
+    rw (digits-of-number 256 (length bs) (reverse bs) (length-reverse bs) (below-reverse 256 bs h)) (reverse-reverse bs)
+
+-- so many bytes hold a number below the power
+pub low-below : (bs : List ℕ) → Below 256 bs → fromLow bs < 256 ^ length bs
+unfolding fromLow
+low-below bs h = rw (← length-reverse bs) (omega (arith, number-below 256 0 (reverse bs) (below-reverse 256 bs h)))
 
 -- a byte of a number; those past its count are 0
 pub low-at : (n x i : ℕ) → getD (lowFirst n x) i 0 ≡ (if i <? n then x / 256 ^ i % 256 else 0)

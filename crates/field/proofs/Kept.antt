@@ -1,0 +1,248 @@
+-- Legal working copies: the chosen cell exists and every cell is within its ends. Every key keeps a legal working copy legal.
+use Prim.Native.Nat.{ℕ, zero, suc, _+_, _-_, _≤_, _<_}
+use mathlib.Core.Path.{_≡_, refl}
+use mathlib.Core.Bool.{Bool, true, false, false≢true}
+use mathlib.Core.List.{List}
+use native.Mathlib.Omega.{arith}
+use native.Mathlib.Decide.{ℕ-discrete, decLt}
+use lib.ListN.{length, getD, set}
+use lib.Seq.{getD-set-same, getD-set-other, set-out}
+use lib.Dec.{lit≤}
+use borrow.Author.Tests.{ltb-true, leb-true, le-leb}
+use Rattle.laws.specs.Choice.{if_then_else_, _<?_, _≤?_}
+use Rattle.laws.proofs.Cases.{if-ind, and-i, and-l, and-r}
+use Rattle.field.specs.Formats.{baseOf}
+use Rattle.field.specs.Table.{profileOf, cellOf, ends, flag, digit}
+use Rattle.field.specs.Cells.{within, legalTo, legal}
+use Rattle.field.specs.Keys.{taken, withChosen, choosing, chosen, raised, lowered, upKey, downKey, leftKey, rightKey, onRight, digitKey, partAfter, enterKey}
+use Rattle.field.specs.declared.kind.Kind.{Kind}
+use Rattle.field.specs.declared.kind.Kind.the-variants.{Integer, Counter, Time, Date, Switch, Option, Trigger}
+use Rattle.field.specs.declared.table.Cell.{Cell}
+use Rattle.field.specs.declared.work.Work.{Work}
+use Rattle.field.specs.declared.keys.Pressed.{Pressed}
+use Rattle.field.specs.declared.keys.Outcome.{Outcome}
+use Rattle.field.proofs.Bounds.{base-ge}
+
+-- a cell within its ends
+pub record Within (c : Cell) (x : ℕ) : Type 0 where
+  pub low : c .low ≤ x
+  pub high : x ≤ c .high
+
+-- each of the kind's cells within its ends
+pub record LegalCells (kind : Kind) (cs : List ℕ) : Type 0 where
+  pub within : (i : ℕ) → i < profileOf kind .cells → Within (cellOf kind i) (getD cs i 0)
+
+-- the chosen cell exists, and the cells are legal
+pub record Legal (kind : Kind) (w : Work) : Type 0 where
+  pub at : w .at < profileOf kind .cells
+  pub cells : LegalCells kind (w .cells)
+
+-- ---- the test and the fact
+
+-- a cell that passes the test is within its ends
+within-true : (c : Cell) (x : ℕ) → within c x ≡ true → Within c x
+unfolding within
+within-true c x e = record { low = leb-true (c .low) x (and-l _ _ e); high = leb-true x (c .high) (and-r _ _ e) }
+
+-- and the other way
+within-bool : (c : Cell) (x : ℕ) → Within c x → within c x ≡ true
+unfolding within
+within-bool c x h = and-i (le-leb (c .low) x (h .low)) (le-leb x (c .high) (h .high))
+
+-- the first cells, one by one
+legal-to : (kind : Kind) (cs : List ℕ) (n : ℕ) → legalTo kind cs n ≡ true → (i : ℕ) → i < n → Within (cellOf kind i) (getD cs i 0)
+unfolding legalTo
+legal-to kind cs zero e i h = absurd (omega arith)
+legal-to kind cs (suc n) e i h = go (ℕ-discrete i n) (λ l. legal-to kind cs n (and-l _ _ e) i l)
+  where
+    go : Dec (i ≡ n) → (i < n → Within (cellOf kind i) (getD cs i 0)) → Within (cellOf kind i) (getD cs i 0)
+    go (yes q) below = rw q (within-true (cellOf kind n) (getD cs n 0) (and-r _ _ e))
+    go (no q) below = below (omega arith)
+
+-- and the other way
+legal-from : (kind : Kind) (cs : List ℕ) (n : ℕ) → ((i : ℕ) → i < n → Within (cellOf kind i) (getD cs i 0)) → legalTo kind cs n ≡ true
+unfolding legalTo
+legal-from kind cs zero h = refl
+legal-from kind cs (suc n) h = and-i (legal-from kind cs n (λ i l. h i (omega arith))) (within-bool (cellOf kind n) (getD cs n 0) (h n (omega arith)))
+
+-- cells that pass the test are legal
+pub legal-true : (kind : Kind) (cs : List ℕ) → legal kind cs ≡ true → LegalCells kind cs
+unfolding legal
+legal-true kind cs e = record { within = legal-to kind cs (profileOf kind .cells) e }
+
+-- legal cells pass the test
+pub legal-bool : (kind : Kind) (cs : List ℕ) → LegalCells kind cs → legal kind cs ≡ true
+unfolding legal
+legal-bool kind cs h = legal-from kind cs (profileOf kind .cells) (h .within)
+
+-- cells that are the same are legal where they were
+pub same-legal : (kind : Kind) (cs ds : List ℕ) → ((i : ℕ) → i < profileOf kind .cells → getD ds i 0 ≡ getD cs i 0) → LegalCells kind cs → LegalCells kind ds
+same-legal kind cs ds e h = record { within = λ i hi. rw (e i hi) (h .within i hi) }
+
+-- ---- rows of the table
+
+-- a cell that is set has a low end below its high end, and a digit cell holds 0 to 9
+pub record Sane (c : Cell) : Type 0 where
+  pub sets : c .sets ≡ true → c .low ≤ c .high
+  pub types : c .types ≡ true → (c .low ≤ 0) × (9 ≤ c .high)
+
+-- a row of ends, a sign or bit, a digit, a choice of rows
+ends-sane : (l h s : ℕ) → Sane (ends l h s)
+ends-sane l h s = record { sets = λ e. absurd (false≢true e); types = λ e. absurd (false≢true e) }
+
+flag-sane : Sane flag
+flag-sane = record { sets = λ e. lit≤ tt; types = λ e. absurd (false≢true e) }
+
+digit-sane : (b : ℕ) → 10 ≤ b → Sane (digit b)
+digit-sane b h = record { sets = λ e. omega arith; types = λ e. (lit≤ tt, omega arith) }
+
+if-sane : (t : Bool) {x y : Cell} → Sane x → Sane y → Sane (if t then x else y)
+if-sane t p q = if-ind (λ (c : Cell). Sane c) t (λ e. p) (λ e. q)
+
+-- every row of the table is so
+pub sane : (kind : Kind) (i : ℕ) → Sane (cellOf kind i)
+unfolding cellOf
+sane (Integer f) i = if-sane _ flag-sane (digit-sane (baseOf f) (base-ge f))
+sane (Counter s) i = ends-sane _ _ _
+sane (Time long) i = if-sane _ (ends-sane _ _ _) (ends-sane _ _ _)
+sane (Date long) i = if-sane _ (ends-sane _ _ _) (if-sane _ (ends-sane _ _ _) (ends-sane _ _ _))
+sane (Switch n) i = flag-sane
+sane (Option n w) i = ends-sane _ _ _
+sane Trigger i = ends-sane _ _ _
+
+-- a row that lies inside the table's
+pub record Inside (kind : Kind) (i : ℕ) (c : Cell) : Type 0 where
+  pub low : cellOf kind i .low ≤ c .low
+  pub high : c .high ≤ cellOf kind i .high
+  pub sets : c .sets ≡ true → c .low ≤ c .high
+
+-- the table's own row
+pub own-row : (kind : Kind) (i : ℕ) → Inside kind i (cellOf kind i)
+own-row kind i = record { low = omega arith; high = omega arith; sets = sane kind i .sets }
+
+-- ---- keys
+
+-- a cell that is set within its ends leaves the cells legal
+pub set-legal : (kind : Kind) (cs : List ℕ) (j x : ℕ) → LegalCells kind cs → Within (cellOf kind j) x → LegalCells kind (set cs j x)
+set-legal kind cs j x h hx = record { within = λ i hi. go i hi (ℕ-discrete i j) (decLt j (length cs)) }
+  where
+    go : (i : ℕ) → i < profileOf kind .cells → Dec (i ≡ j) → Dec (j < length cs) → Within (cellOf kind i) (getD (set cs j x) i 0)
+    go i hi (yes e) (yes l) = rw (e, getD-set-same cs j x 0 l) hx
+    go i hi (yes e) (no l) = rw (set-out cs j x (omega arith)) (h .within i hi)
+    go i hi (no n) _ = rw (getD-set-other cs j i x 0 n) (h .within i hi)
+
+-- a result with a legal working copy
+record Keeps (kind : Kind) (r : Pressed) : Type 0 where
+  legal : Legal kind (r .work)
+
+-- a choice of results
+by-if : {kind : Kind} (t : Bool) {x y : Pressed} → (t ≡ true → Keeps kind x) → (t ≡ false → Keeps kind y) → Keeps kind (if t then x else y)
+by-if {kind} t p q = if-ind (λ (r : Pressed). Keeps kind r) t p q
+
+module _ (kind : Kind) (w : Work) (h : Legal kind w) where
+  -- nothing changes
+  same : {o : Outcome} → Keeps kind (record { work = w; outcome = o })
+  same = record { legal = h }
+
+  -- another cell is chosen
+  chosen-keeps : {o : Outcome} (i : ℕ) → i < profileOf kind .cells → Keeps kind (record { work = choosing w i; outcome = o })
+  chosen-keeps i hi = record { legal = record { at = hi; cells = h .cells } }
+
+  -- the chosen cell is set, and perhaps another chosen
+  set-keeps : (x i : ℕ) → Within (cellOf kind (w .at)) x → i < profileOf kind .cells → Keeps kind (taken (choosing (withChosen w x) i))
+  set-keeps x i hx hi = record { legal = record { at = hi; cells = set-legal kind (w .cells) (w .at) x (h .cells) hx } }
+
+  -- the chosen cell is within its ends
+  here : Within (cellOf kind (w .at)) (chosen w)
+  here = h .cells .within (w .at) (h .at)
+
+  -- the cell on the left exists, or the first
+  before : w .at - 1 < profileOf kind .cells
+  before = omega (arith, h .at)
+
+  -- the cell on the right exists
+  next : (w .at + 1) <? profileOf kind .cells ≡ true → w .at + 1 < profileOf kind .cells
+  next e = ltb-true (w .at + 1) (profileOf kind .cells) e
+
+  -- the cell that a digit key goes to exists
+  right-exists : onRight (profileOf kind) w < profileOf kind .cells
+  unfolding onRight
+  right-exists = if-ind (λ (i : ℕ). i < profileOf kind .cells) _ next (λ e. h .at)
+
+  module _ (c : Cell) (n : Inside kind (w .at) c) where
+    -- a step up
+    raised-keeps : Keeps kind (raised c w)
+    unfolding raised
+    raised-keeps = by-if _ set (λ e. by-if _ step (λ q. same))
+      where
+        set : c .sets ≡ true → Keeps kind (taken (withChosen w (c .high)))
+        set e = set-keeps (c .high) (w .at) (record { low = omega (arith, n .low, n .sets e); high = n .high }) (h .at)
+
+        step : (chosen w + c .step) ≤? c .high ≡ true → Keeps kind (taken (withChosen w (chosen w + c .step)))
+        step e =
+            let l = leb-true (chosen w + c .step) (c .high) e in
+            set-keeps (chosen w + c .step) (w .at) (record { low = omega (arith, here .low); high = omega (arith, n .high) }) (h .at)
+
+    -- a step down
+    lowered-keeps : Keeps kind (lowered c w)
+    unfolding lowered
+    lowered-keeps = by-if _ set (λ e. by-if _ step (λ q. same))
+      where
+        set : c .sets ≡ true → Keeps kind (taken (withChosen w (c .low)))
+        set e = set-keeps (c .low) (w .at) (record { low = n .low; high = omega (arith, n .high, n .sets e) }) (h .at)
+
+        step : (c .low + c .step) ≤? chosen w ≡ true → Keeps kind (taken (withChosen w (chosen w - c .step)))
+        step e =
+            let l = leb-true (c .low + c .step) (chosen w) e in
+            set-keeps (chosen w - c .step) (w .at) (record { low = omega (arith, n .low); high = omega (arith, here .high) }) (h .at)
+
+    -- a step up by any row inside the table's
+    pub raised-legal : Legal kind (raised c w .work)
+    raised-legal = raised-keeps .legal
+
+    -- a step down
+    pub lowered-legal : Legal kind (lowered c w .work)
+    lowered-legal = lowered-keeps .legal
+
+  -- UP
+  pub up-legal : Legal kind (upKey (profileOf kind) (cellOf kind (w .at)) w .work)
+  unfolding upKey
+  up-legal = by-if _ (λ e. same) (λ e. by-if _ (λ e. same) (λ e. raised-keeps _ (own-row kind (w .at)))) .legal
+
+  -- DOWN
+  pub down-legal : Legal kind (downKey (profileOf kind) (cellOf kind (w .at)) w .work)
+  unfolding downKey
+  down-legal = by-if _ (λ e. same) (λ e. by-if _ (λ e. same) (λ e. lowered-keeps _ (own-row kind (w .at)))) .legal
+
+  -- LEFT
+  pub left-legal : Legal kind (leftKey (profileOf kind) (cellOf kind (w .at)) w .work)
+  unfolding leftKey
+  left-legal =
+      by-if _ (λ e. same)
+      (λ e. by-if _ (λ m. by-if _ (λ e. chosen-keeps (w .at - 1) before) (λ e. same))
+      (λ m. by-if _ (λ e. lowered-keeps _ (own-row kind (w .at))) (λ e. same))) .legal
+
+  -- RIGHT
+  pub right-legal : Legal kind (rightKey (profileOf kind) (cellOf kind (w .at)) w .work)
+  unfolding rightKey
+  right-legal =
+      by-if _ (λ e. same)
+      (λ e. by-if _ (λ m. by-if _ (λ e. chosen-keeps (w .at + 1) (next e)) (λ e. same))
+      (λ m. by-if _ (λ e. raised-keeps _ (own-row kind (w .at))) (λ e. same))) .legal
+
+  -- a digit key
+  pub digit-legal : (d : ℕ) → d < 10 → Legal kind (digitKey (profileOf kind) (cellOf kind (w .at)) w d .work)
+  unfolding digitKey
+  digit-legal d hd = by-if _ typed (λ t. same) .legal
+    where
+      typed : cellOf kind (w .at) .types ≡ true → Keeps kind (taken (choosing (withChosen w d) (onRight (profileOf kind) w)))
+      typed t =
+          let s = sane kind (w .at) .types t in
+          set-keeps d (onRight (profileOf kind) w) (record { low = omega (arith, s .0); high = omega (arith, s .1) }) right-exists
+
+  -- ENTER
+  pub enter-legal : Legal kind (enterKey kind w .work)
+  unfolding enterKey partAfter
+  enter-legal =
+      by-if _ (λ e. same)
+      (λ e. by-if _ (λ p. chosen-keeps (w .at + 1) (next (and-r _ _ p))) (λ p. by-if _ (λ q. same) (λ q. same))) .legal
