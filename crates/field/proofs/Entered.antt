@@ -18,7 +18,7 @@ use Rattle.laws.proofs.Numerals.{Below, below-all, number-below, number-of-low}
 use Rattle.field.specs.Formats.{numeralOf, bitsIn, bitsOf}
 use Rattle.field.specs.Table.{profileOf, cellOf}
 use Rattle.field.specs.Values.{numberOf}
-use Rattle.field.specs.Cells.{spans, shownBy, minus, storable, ofDigits, cellsOf, storedIn, showable, stores, legal, inRange, finished}
+use Rattle.field.specs.Cells.{spans, shownBy, minus, storable, ofDigits, cellsOf, storedIn, inSpan, stores, legal, inRange, finished}
 use Rattle.field.specs.Sound.{Sound}
 use Rattle.field.specs.declared.numeral.Numeral.{Numeral}
 use Rattle.field.specs.declared.kind.Kind.{Kind}
@@ -172,7 +172,7 @@ parts-legal kind cs t k h = legal-bool kind _ (same-legal kind cs _ (parts-again
 
 -- what ENTER stores is in range
 pub range-stored : (kind : Kind) (cs : List ℕ) → Fitting kind → LegalCells kind cs → stores kind cs ≡ true → inRange kind (storedIn kind cs) ≡ true
-unfolding inRange showable storedIn stores
+unfolding inRange inSpan storedIn stores
 range-stored (Integer f) cs k h e = range-of-integer f _ ∙ spans-stored (numeralOf f) (format-sound f) cs e
 range-stored (Counter s) cs k h e = and-i refl (parts-legal (Counter s) cs tt k h)
 range-stored (Time long) cs k h e = and-i refl (parts-legal (Time long) cs tt k h)

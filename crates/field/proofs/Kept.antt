@@ -84,17 +84,17 @@ same-legal kind cs ds e h = record { within = λ i hi. rw (e i hi) (h .within i 
 -- a cell that is set has a low end below its high end, and a digit cell holds 0 to 9
 pub record Sane (c : Cell) : Type 0 where
   pub sets : c .sets ≡ true → c .low ≤ c .high
-  pub types : c .types ≡ true → (c .low ≤ 0) × (9 ≤ c .high)
+  pub typed : c .typed ≡ true → (c .low ≤ 0) × (9 ≤ c .high)
 
 -- a row of ends, a sign or bit, a digit, a choice of rows
 ends-sane : (l h s : ℕ) → Sane (ends l h s)
-ends-sane l h s = record { sets = λ e. absurd (false≢true e); types = λ e. absurd (false≢true e) }
+ends-sane l h s = record { sets = λ e. absurd (false≢true e); typed = λ e. absurd (false≢true e) }
 
 flag-sane : Sane flag
-flag-sane = record { sets = λ e. lit≤ tt; types = λ e. absurd (false≢true e) }
+flag-sane = record { sets = λ e. lit≤ tt; typed = λ e. absurd (false≢true e) }
 
 digit-sane : (b : ℕ) → 10 ≤ b → Sane (digit b)
-digit-sane b h = record { sets = λ e. omega arith; types = λ e. (lit≤ tt, omega arith) }
+digit-sane b h = record { sets = λ e. omega arith; typed = λ e. (lit≤ tt, omega arith) }
 
 if-sane : (t : Bool) {x y : Cell} → Sane x → Sane y → Sane (if t then x else y)
 if-sane t p q = if-ind (λ (c : Cell). Sane c) t (λ e. p) (λ e. q)
@@ -235,9 +235,9 @@ module _ (kind : Kind) (w : Work) (h : Legal kind w) where
   unfolding digitKey
   digit-legal d hd = by-if _ typed (λ t. same) .legal
     where
-      typed : cellOf kind (w .at) .types ≡ true → Keeps kind (taken (choosing (withChosen w d) (onRight (profileOf kind) w)))
+      typed : cellOf kind (w .at) .typed ≡ true → Keeps kind (taken (choosing (withChosen w d) (onRight (profileOf kind) w)))
       typed t =
-          let s = sane kind (w .at) .types t in
+          let s = sane kind (w .at) .typed t in
           set-keeps d (onRight (profileOf kind) w) (record { low = omega (arith, s .0); high = omega (arith, s .1) }) right-exists
 
   -- ENTER

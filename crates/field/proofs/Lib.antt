@@ -8,4 +8,5 @@ pub mod Entered
 pub mod Shown
 pub mod Apart
 pub mod Outcomes
+pub mod Counted
 pub mod Starred

@@ -101,19 +101,19 @@ moves-apart (Option n w) e = refl
 moves-apart Trigger e = refl
 
 -- a choice of cells that digit keys do not set
-if-typed : (t : Bool) (a b : Cell) → a .types ≡ false → b .types ≡ false → (if t then a else b) .types ≡ false
-if-typed t a b p q = if-ind (λ (c : Cell). c .types ≡ false) t (λ e. p) (λ e. q)
+if-typed : (t : Bool) (a b : Cell) → a .typed ≡ false → b .typed ≡ false → (if t then a else b) .typed ≡ false
+if-typed t a b p q = if-ind (λ (c : Cell). c .typed ≡ false) t (λ e. p) (λ e. q)
 
 -- a kind with a cell that digit keys set has no parts, and is no trigger
-types-apart : (k : Kind) (i : ℕ) → cellOf k i .types ≡ true → (profileOf k .fires ≡ false) × (profileOf k .parts ≡ false)
+typed-apart : (k : Kind) (i : ℕ) → cellOf k i .typed ≡ true → (profileOf k .fires ≡ false) × (profileOf k .parts ≡ false)
 unfolding profileOf cellOf
-types-apart (Integer f) i e = (refl, refl)
-types-apart (Counter s) i e = (refl, refl)
-types-apart (Time long) i e = (refl, sym e ∙ if-typed _ _ _ refl refl)
-types-apart (Date long) i e = (refl, sym e ∙ if-typed _ _ _ refl (if-typed _ _ _ refl refl))
-types-apart (Switch n) i e = (refl, refl)
-types-apart (Option n w) i e = (refl, refl)
-types-apart Trigger i e = (sym e, refl)
+typed-apart (Integer f) i e = (refl, refl)
+typed-apart (Counter s) i e = (refl, refl)
+typed-apart (Time long) i e = (refl, sym e ∙ if-typed _ _ _ refl refl)
+typed-apart (Date long) i e = (refl, sym e ∙ if-typed _ _ _ refl (if-typed _ _ _ refl refl))
+typed-apart (Switch n) i e = (refl, refl)
+typed-apart (Option n w) i e = (refl, refl)
+typed-apart Trigger i e = (sym e, refl)
 
 -- ---- the keys
 
@@ -151,7 +151,7 @@ module _ (k : Kind) (w : Work) where
   -- a digit key, by the table's row
   pub digit-says : (d : ℕ) → Says false k w (digitKey (profileOf k) (cellOf k (w .at)) w d)
   unfolding digitKey
-  digit-says d = by-if _ (λ t. let a = types-apart k (w .at) t in says-moved (a .0) (a .1)) (λ t. says-flash)
+  digit-says d = by-if _ (λ t. let a = typed-apart k (w .at) t in says-moved (a .0) (a .1)) (λ t. says-flash)
 
   -- ENTER
   pub enter-says : Says true k w (enterKey k w)

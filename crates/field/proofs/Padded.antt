@@ -10,7 +10,7 @@ use Rattle.laws.specs.Parts.{partAt}
 use Rattle.laws.specs.Overwrite.{over, fit}
 use Rattle.laws.specs.Digits.{lowFirst}
 use Rattle.laws.specs.Bytes.{byteAt}
-use Rattle.laws.proofs.Pen.{over-blank, fit-at, fit-four}
+use Rattle.laws.proofs.Overwriting.{over-blank, fit-at, fit-four}
 use Rattle.laws.proofs.Lists.{part-at}
 use Rattle.laws.proofs.Numerals.{low-at}
 use native.Mathlib.Nat.{div-one, add-zero}

@@ -14,7 +14,7 @@ use Rattle.laws.proofs.Lists.{getD-left, getD-right}
 use Rattle.laws.proofs.Numerals.{length-digits, digit-below}
 use Rattle.field.specs.Formats.{formatOf, signsOf, digitsIn, baseOf, limitOf, halfOf, topOf, numeralOf, bitsIn, bitsOf}
 use Rattle.field.specs.Table.{profileOf, cellOf, flag, digit}
-use Rattle.field.specs.Cells.{spans, distance, signOf, inDigits, cellsOf, showable, inRange}
+use Rattle.field.specs.Cells.{spans, distance, signOf, inDigits, cellsOf, inSpan, inRange}
 use Rattle.field.specs.Sound.{Sound}
 use Rattle.field.specs.declared.numeral.Numeral.{Numeral}
 use Rattle.field.specs.declared.kind.Format.{Format}
@@ -128,10 +128,10 @@ module _ (n : ℕ) (cs : List ℕ) where
 
 -- an integer is in range where its numeral spans it
 pub range-of-integer : (f : Format) (x : ℕ) → inRange (Integer f) x ≡ spans (numeralOf f) x
-unfolding inRange showable cellsOf
+unfolding inRange inSpan cellsOf
 range-of-integer f x = and-second _ (legal-bool (Integer f) _ (digits-integer f _ (digit-cells (numeralOf f) (format-sound f) x)))
 
 -- and so is a switch
 pub range-of-switch : (n x : ℕ) → inRange (Switch n) x ≡ spans (bitsOf n) x
-unfolding inRange showable cellsOf
+unfolding inRange inSpan cellsOf
 range-of-switch n x = and-second _ (legal-bool (Switch n) _ (digits-switch n _ (digit-cells (bitsOf n) (bits-sound n) x)))

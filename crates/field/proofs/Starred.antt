@@ -10,7 +10,7 @@ use Rattle.laws.specs.Digits.{digitsOf, numberFrom, lowFirst, fromLow}
 use Rattle.field.specs.Formats.{formatOf, signsOf, digitsIn, baseOf, limitOf, halfOf, topOf, bitsIn}
 use Rattle.field.specs.Table.{profileOf, cellOf}
 use Rattle.field.specs.Values.{bytesOf, valueOf, numberOf, valueFrom}
-use Rattle.field.specs.Cells.{spans, distance, signOf, inDigits, shownBy, minus, storable, ofDigits, cellsOf, storedIn, showable, stores, within, legalTo, legal, inRange, workOf, started, finished}
+use Rattle.field.specs.Cells.{spans, distance, signOf, inDigits, shownBy, minus, storable, ofDigits, cellsOf, storedIn, inSpan, stores, within, legalTo, legal, inRange, workOf, started, finished}
 use Rattle.field.specs.Keys.{raised, lowered, upKey, downKey, leftKey, rightKey, onRight, digitKey, partAfter, enterKey}
 use Rattle.field.specs.declared.kind.Kind.{Kind}
 use Rattle.field.specs.declared.kind.Kind.the-variants.{Integer, Counter, Time, Date, Switch, Option, Trigger}
@@ -134,5 +134,5 @@ cases =
 
 -- every case comes out as listed
 pub starred : map runs cases ≡ map expected cases
-unfolding cases if_then_else_ _and_ fit digitsOf numberFrom lowFirst fromLow formatOf signsOf digitsIn baseOf limitOf halfOf topOf bitsIn profileOf cellOf numberOf valueFrom spans distance signOf inDigits shownBy minus storable ofDigits cellsOf storedIn showable stores within legalTo legal inRange workOf started finished raised lowered upKey downKey leftKey rightKey onRight digitKey partAfter enterKey
+unfolding cases if_then_else_ _and_ fit digitsOf numberFrom lowFirst fromLow formatOf signsOf digitsIn baseOf limitOf halfOf topOf bitsIn profileOf cellOf numberOf valueFrom spans distance signOf inDigits shownBy minus storable ofDigits cellsOf storedIn inSpan stores within legalTo legal inRange workOf started finished raised lowered upKey downKey leftKey rightKey onRight digitKey partAfter enterKey
 starred = refl

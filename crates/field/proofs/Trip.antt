@@ -14,12 +14,12 @@ use Rattle.laws.specs.Overwrite.{fit}
 use Rattle.laws.specs.Digits.{digitsOf, lowFirst, fromLow}
 use Rattle.laws.proofs.Cases.{if-ind, if-true, if-false, if-le, if-gt, by-test, and-i, and-l, and-r}
 use Rattle.laws.proofs.Lists.{drop-take}
-use Rattle.laws.proofs.Pen.{fit-at, take-fit}
+use Rattle.laws.proofs.Overwriting.{fit-at, take-fit}
 use Rattle.laws.proofs.Numerals.{number-of-digits, Below, length-low, low-of-number, low-below}
 use Rattle.field.specs.Formats.{numeralOf, bitsOf}
 use Rattle.field.specs.Table.{profileOf}
 use Rattle.field.specs.Values.{bytesOf, valueOf, numberOf, valueFrom}
-use Rattle.field.specs.Cells.{spans, distance, signOf, inDigits, shownBy, minus, storable, ofDigits, cellsOf, storedIn, showable, stores, inRange, workOf, started, finished}
+use Rattle.field.specs.Cells.{spans, distance, signOf, inDigits, shownBy, minus, storable, ofDigits, cellsOf, storedIn, inSpan, stores, inRange, workOf, started, finished}
 use Rattle.field.specs.Sound.{Sound}
 use Rattle.field.specs.declared.numeral.Numeral.{Numeral}
 use Rattle.field.specs.declared.kind.Kind.{Kind}
@@ -128,14 +128,14 @@ module _ (n : Numeral) (s : Sound n) (x : ℕ) (e : spans n x ≡ true) where
 -- ---- every kind
 
 -- a time's number is made of its bytes
-time-back : (long : Bool) (x : ℕ) → x < 256 ^ (if long then 3 else 2) → x % 256 + 256 * (x / 256 % 256) + (if long then 65536 * (x / 65536 % 256) else 0) ≡ x
+time-back : (long : Bool) (x : ℕ) → x < 256 ^ (if long then 3 else 2) → x % 256 + 256 * (x / 256 % 256) + (if long then 65536 * (if long then x / 65536 % 256 else 0) else 0) ≡ x
 unfolding if_then_else_
 time-back true x h = omega arith
 time-back false x h = omega arith
 
 -- the cells of a number in range stand for that number
 pub stored-back : (kind : Kind) (x : ℕ) → inRange kind x ≡ true → x < 256 ^ profileOf kind .bytes → storedIn kind (workOf (cellsOf kind x) .cells) ≡ x
-unfolding storedIn workOf cellsOf inRange showable profileOf fit
+unfolding storedIn workOf cellsOf inRange inSpan profileOf fit
 stored-back (Integer f) x e h = digits-back (numeralOf f) (format-sound f) x (and-l _ _ e)
 stored-back (Counter s) x e h = omega arith
 stored-back (Time long) x e h = time-back long x h
@@ -146,7 +146,7 @@ stored-back Trigger x e h = omega arith
 
 -- and ENTER stores them
 pub stores-back : (kind : Kind) (x : ℕ) → inRange kind x ≡ true → stores kind (workOf (cellsOf kind x) .cells) ≡ true
-unfolding stores workOf cellsOf inRange showable
+unfolding stores workOf cellsOf inRange inSpan
 stores-back (Integer f) x e = digits-stored (numeralOf f) (format-sound f) x (and-l _ _ e)
 stores-back (Counter s) x e = refl
 stores-back (Time long) x e = refl

@@ -23,11 +23,11 @@ use Rattle.field.specs.declared.value.Value.{Value}
 unfoldable pub spans : Numeral → ℕ → Bool
 spans n x = if x ≤? n .above then true else ((n .limit - n .below) ≤? x) and (x <? n .limit)
 
--- how far a number stands from 0
+-- how far a number in range stands from 0
 unfoldable pub distance : Numeral → ℕ → ℕ
 distance n x = if x ≤? n .above then x else n .limit - x
 
--- 01, Fields: the sign is '+' for 0 and above; a sign cell holds 1 for '+'
+-- 01, Fields: the sign of a number in range is '+' for 0 and above; a sign cell holds 1 for '+'
 unfoldable pub signOf : Numeral → ℕ → ℕ
 signOf n x = if x ≤? n .above then 1 else 0
 
@@ -56,11 +56,11 @@ ofDigits n cs = if minus n cs then (n .limit - shownBy n cs) % n .limit else sho
 abbrev pub biased : ℕ → ℕ
 biased x = (x + 32768) % 65536
 
--- a number as cells; a time without seconds has no third byte; dates are stored day, month, year and shown year, month, day
+-- a number as cells; dates are stored day, month, year and shown year, month, day
 unfoldable pub cellsOf : Kind → ℕ → List ℕ
 cellsOf (Integer f) x = inDigits (numeralOf f) x
 cellsOf (Counter s) x = biased x ∷ []
-cellsOf (Time long) x = x % 256 ∷ x / 256 % 256 ∷ x / 65536 % 256 ∷ []
+cellsOf (Time long) x = x % 256 ∷ x / 256 % 256 ∷ (if long then x / 65536 % 256 else 0) ∷ []
 cellsOf (Date long) x = x / 65536 ∷ x / 256 % 256 ∷ x % 256 ∷ []
 cellsOf (Switch n) x = inDigits (bitsOf n) x
 cellsOf (Option n w) x = x ∷ []
@@ -76,15 +76,15 @@ storedIn (Switch n) cs = ofDigits (bitsOf n) cs
 storedIn (Option n w) cs = getD cs 0 0
 storedIn Trigger cs = 0
 
--- whether the cells can show a number: for a number in digits, its range
-unfoldable pub showable : Kind → ℕ → Bool
-showable (Integer f) x = spans (numeralOf f) x
-showable (Counter s) x = true
-showable (Time long) x = true
-showable (Date long) x = true
-showable (Switch n) x = spans (bitsOf n) x
-showable (Option n w) x = true
-showable Trigger x = true
+-- an integer's or a switch's number within the numeral's range; the other kinds are settled by the ends of their cells
+unfoldable pub inSpan : Kind → ℕ → Bool
+inSpan (Integer f) x = spans (numeralOf f) x
+inSpan (Counter s) x = true
+inSpan (Time long) x = true
+inSpan (Date long) x = true
+inSpan (Switch n) x = spans (bitsOf n) x
+inSpan (Option n w) x = true
+inSpan Trigger x = true
 
 -- whether ENTER can store what the cells show: only an integer's cells can be legal and out of range
 unfoldable pub stores : Kind → List ℕ → Bool
@@ -105,13 +105,13 @@ unfoldable pub legalTo : Kind → List ℕ → ℕ → Bool
 legalTo k cs zero = true
 legalTo k cs (suc n) = legalTo k cs n and within (cellOf k n) (getD cs n 0)
 
--- 01, A session fits: a working value in range, or legal signs and digits
+-- 01, A session fits: a working value in range, or legal signs and digits; a trigger's one cell holds 0
 unfoldable pub legal : Kind → List ℕ → Bool
 legal k cs = legalTo k cs (profileOf k .cells)
 
--- 01, Fields: a number is in range if the cells can show it and each is within its ends
+-- 01, Fields: a number that the field's bytes can hold is in range if its numeral spans it (integers, switches) and its cells are within their ends (the other kinds)
 unfoldable pub inRange : Kind → ℕ → Bool
-inRange k x = showable k x and legal k (cellsOf k x)
+inRange k x = inSpan k x and legal k (cellsOf k x)
 
 -- a working copy at its first cell; cells that the kind has not are 0
 unfoldable pub workOf : List ℕ → Work
@@ -121,6 +121,6 @@ workOf cs = record { cells = fit 0 32 cs; at = 0 }
 unfoldable pub started : Kind → Value → Value → Work
 started k v d = workOf (cellsOf k (if inRange k (numberOf v) then numberOf v else numberOf d))
 
--- the bytes that the last ENTER of a visit stores
+-- the value that the cells stand for; the last ENTER of a visit stores it where `stores` holds
 unfoldable pub finished : Kind → Work → Value
 finished k w = valueFrom (profileOf k .bytes) (storedIn k (w .cells))

@@ -28,7 +28,7 @@ formatOf code =
 unfoldable pub signsOf : Format → ℕ
 signsOf f = if f .signed then 1 else 0
 
--- digit cells: no mask has more than five
+-- digit cells: no mask has more than five, and a format that states more is cut, so that every format is sound
 unfoldable pub digitsIn : Format → ℕ
 digitsIn f = if f .digits <? 5 then f .digits else 5
 
@@ -58,9 +58,13 @@ numeralOf f = record {
   limit = limitOf f;
 }
 
--- 01, Fields: a switch has a cell for each bit that it states; four bytes hold 32
+-- a switch's four bytes hold 32 bits
+abbrev pub maxBits : ℕ
+maxBits = 32
+
+-- 01, Fields: a switch has a cell for each bit that it states; one that states more is refused (settings), and cut here so that every switch is sound
 unfoldable pub bitsIn : ℕ → ℕ
-bitsIn n = if n <? 32 then n else 32
+bitsIn n = if n <? maxBits then n else maxBits
 
 abbrev pub bitsOf : ℕ → Numeral
 bitsOf n = record { signs = 0; digits = bitsIn n; base = 2; above = 2 ^ bitsIn n - 1; below = 0; limit = 4294967296 }

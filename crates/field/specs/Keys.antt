@@ -1,4 +1,4 @@
--- 01, Keys, a visit: what each key makes of the working copy. Keys go by the rows of the tables and not by the kind.
+-- 01, Keys, a visit: what each key makes of the working copy. Keys go by the rows of the tables; only ENTER asks the kind whether it can store.
 use Prim.Native.Nat.{ℕ, _+_, _-_}
 use mathlib.Core.Bool.{Bool}
 use lib.ListN.{getD, set}
@@ -12,7 +12,7 @@ use Rattle.field.specs.declared.work.Work.{Work}
 use Rattle.field.specs.declared.keys.Pressed.{Pressed}
 use Rattle.field.specs.declared.keys.Outcome.the-variants as outcome
 
--- 01's terms: the key is taken, and the visit goes on with this working copy; a flash leaves it as it is
+-- the visit goes on with this working copy; a flash leaves it as it is (01's terms taken and flash; going to the next part and passing a trigger by are taken too)
 abbrev pub taken : Work → Pressed
 taken w = record { work = w; outcome = outcome.Taken }
 
@@ -82,10 +82,10 @@ rightKey p c w =
 unfoldable pub onRight : Profile → Work → ℕ
 onRight p w = if (w .at + 1) <? p .cells then w .at + 1 else w .at
 
--- a digit key sets a digit cell and moves right, staying at the last; anywhere else it flashes
+-- a digit key, 0 to 9, sets a digit cell and moves right, staying at the last; anywhere else it flashes
 unfoldable pub digitKey : Profile → Cell → Work → ℕ → Pressed
 digitKey p c w d =
-    if c .types then taken (choosing (withChosen w d) (onRight p w))
+    if c .typed then taken (choosing (withChosen w d) (onRight p w))
     else flash w
 
 -- a time or date with a part after the chosen one

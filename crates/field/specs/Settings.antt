@@ -2,6 +2,7 @@
 use Prim.Native.Nat.{ℕ, _+_, _-_}
 use mathlib.Core.Bool.{Bool, true}
 use Rattle.laws.specs.Choice.{if_then_else_, _and_, _<?_, _≤?_}
+use Rattle.field.specs.Formats.{maxBits}
 use Rattle.field.specs.Values.{numberOf}
 use Rattle.field.specs.Cells.{inRange}
 use Rattle.field.specs.declared.kind.Kind.{Kind}
@@ -9,7 +10,7 @@ use Rattle.field.specs.declared.kind.Kind.the-variants.{Integer, Counter
 use Rattle.field.specs.declared.kind.CounterSettings.{CounterSettings}
 use Rattle.field.specs.declared.value.Value.{Value}
 
--- how many decimal digits a number of at most five has
+-- how many decimal digits a number of at most five digits has
 unfoldable pub places : ℕ → ℕ
 places x = if x <? 10 then 1 else if x <? 100 then 2 else if x <? 1000 then 3 else if x <? 10000 then 4 else 5
 
@@ -25,16 +26,16 @@ stepFits s = (1 ≤? s .step) and (s .step <? 32768)
 unfoldable pub widthFits : CounterSettings → Bool
 widthFits s = (countedCells (s .min) ≤? s .width) and (countedCells (s .max) ≤? s .width)
 
--- 01, Fields: a switch has one bit to 32, an option at least one item
-unfoldable pub settled : Kind → Bool
-settled (Integer f) = true
-settled (Counter s) = stepFits s and widthFits s
-settled (Time long) = true
-settled (Date long) = true
-settled (Switch n) = (1 ≤? n) and (n ≤? 32)
-settled (Option n w) = 1 ≤? n
-settled Trigger = true
+-- 01, Fields: a switch has from one bit to as many as it stores; an option has 1 to 255 items, and its count is one byte
+unfoldable pub goodSettings : Kind → Bool
+goodSettings (Integer f) = true
+goodSettings (Counter s) = stepFits s and widthFits s
+goodSettings (Time long) = true
+goodSettings (Date long) = true
+goodSettings (Switch n) = (1 ≤? n) and (n ≤? maxBits)
+goodSettings (Option n w) = 1 ≤? n
+goodSettings Trigger = true
 
 -- good settings, and a default in range; a counter's default in range gives min <= default <= max
 unfoldable pub settingsFit : Kind → Value → Bool
-settingsFit k d = settled k and inRange k (numberOf d)
+settingsFit k d = goodSettings k and inRange k (numberOf d)

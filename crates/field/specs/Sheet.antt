@@ -1,4 +1,4 @@
--- A field's own bytes in the sheet (01, The four calls): read where a visit begins, written where it is finished.
+-- A field's own bytes in the sheet (01, The four calls): written by Open, read where a visit begins, written where it is finished.
 use Prim.Native.Nat.{ℕ}
 use mathlib.Core.List.{List}
 use Rattle.laws.specs.Parts.{partAt, putAt}

@@ -8,7 +8,9 @@ use Rattle.field.specs.declared.kind.Kind.the-variants.{Integer, Counter
 use Rattle.field.specs.declared.table.Profile.{Profile}
 use Rattle.field.specs.declared.table.Cell.{Cell}
 
--- a kind's cells, its bytes in the sheet, and what keys do in a visit:
+-- A cell here is what UP and DOWN change: a sign, a digit, a bit, a part of a time or date, or the whole of a counter or option.
+-- (The cells of the display are the picture's.) A kind's row has its cells, its bytes in the sheet, and what keys do in a visit.
+
 -- LEFT and RIGHT move between cells
 abbrev pub moving : ℕ → ℕ → Profile
 moving c b = record { cells = c; bytes = b; moves = true; slides = false; parts = false; fires = false }
@@ -41,15 +43,15 @@ profileOf Trigger = firing 1 0
 
 -- a cell with a low end, a high end and a step
 abbrev pub ends : ℕ → ℕ → ℕ → Cell
-ends l h s = record { low = l; high = h; step = s; sets = false; types = false }
+ends l h s = record { low = l; high = h; step = s; sets = false; typed = false }
 
 -- a sign, 1 for '+', or a bit: UP and DOWN set it
 abbrev pub flag : Cell
-flag = record { low = 0; high = 1; step = 1; sets = true; types = false }
+flag = record { low = 0; high = 1; step = 1; sets = true; typed = false }
 
 -- a digit: digit keys set it too
 abbrev pub digit : ℕ → Cell
-digit base = record { low = 0; high = base - 1; step = 1; sets = false; types = true }
+digit base = record { low = 0; high = base - 1; step = 1; sets = false; typed = true }
 
 -- 01, Fields: a row for each cell of a kind, from the left; a date's are year, month, day
 unfoldable pub cellOf : Kind → ℕ → Cell

@@ -1,4 +1,4 @@
-// A visit by keys: one method a key, each from a working copy and the rows of the tables to the next working copy.
+// A visit by keys: one method a key, each from a working copy and its rows of the tables to the next working copy. ENTER takes the kind.
 ghost use mathlib.Core.Path.{_≡_};
 ghost use Prim.Native.Nat.{_<_};
 ghost use Rattle.field.specs.Keys.{taken, flash, chosen, withChosen, raised, lowered, upKey, downKey, leftKey, rightKey, onRight, digitKey, partAfter, enterKey};
@@ -172,10 +172,11 @@ impl Work {
         self.at
     }
 
+    // A digit key, 0 to 9.
     pub fn digit(self, p: Profile, c: Cell, d: u8) -> Pressed
         ensures { λ r. ⌜ r ≡ digitKey p c self d ⌝ }
     {
-        if c.types {
+        if c.typed {
             let mut next = self.with_chosen(d as u32);
             next.at = self.on_right(p);
             return Pressed::taken(next);

@@ -8,7 +8,7 @@ pub struct ImagePlace(pub usize);
 // A place in the sheet, counted from 0. The sheet is the paper's term for the bytes that hold a candidate's answers.
 pub struct SheetPlace(pub u16);
 
-// An integer's cells: two bytes or one, with a sign or without, to the base 16 or 10, and how many digits (more than five count as five).
+// An integer's cells: two bytes or one, with a sign or without, to the base 16 or 10, and how many digits.
 pub struct Format {
     pub wide: bool,
     pub signed: bool,
@@ -16,7 +16,7 @@ pub struct Format {
     pub digits: u8,
 }
 
-// A counter: its ends with 32,768 added, its step, and its width in cells.
+// A counter: min and max with 32,768 added, the step as it is stored (32,768 and above are negative), and the width in display cells.
 pub struct CounterSettings {
     pub min: u16,
     pub max: u16,
@@ -24,7 +24,8 @@ pub struct CounterSettings {
     pub width: u8,
 }
 
-// The flag of a time or date: with seconds, or with four digits for the year. A switch has so many bits (more than 32 count as 32).
+// The flag of a time or date: with seconds, or with four digits for the year. A switch has a count of bits, an option its count of items and the
+// length of the longest.
 pub enum Kind {
     Integer(Format),
     Counter(CounterSettings),
@@ -33,6 +34,11 @@ pub enum Kind {
     Switch(u8),
     Option { items: u8, longest: u8 },
     Trigger,
+}
+
+impl Kind {
+    // The bits that a switch's four bytes hold.
+    pub const MAX_BITS: u8 = 32;
 }
 
 impl Format {

@@ -8,6 +8,7 @@ ghost use Rattle.field.specs.Formats.{signsOf, digitsIn, baseOf, limitOf
 ghost use Rattle.field.specs.Cells.{spans, distance, signOf, inDigits, shownBy, minus, storable, ofDigits, workOf};
 ghost use Rattle.field.specs.Sound.{Sound};
 use crate::kind::Format;
+use crate::kind::Kind;
 use crate::work::Work;
 
 // Sign cells, digit cells, base; the range, from `below` below 0 to `above` above it; how many numbers its bytes can hold.
@@ -81,7 +82,11 @@ impl Format {
 pub(crate) fn bits_in(n: u8) -> u8
     ensures { λ r. ⌜ r ≡ bitsIn n ⌝ }
 {
-    if n < 32 { n } else { 32 }
+    if n < Kind::MAX_BITS {
+        n
+    } else {
+        Kind::MAX_BITS
+    }
 }
 
 fn smaller(a: u64, b: u64) -> u64

@@ -10,7 +10,8 @@ use crate::value::load;
 use crate::value::put;
 use crate::work::Work;
 
-// Where the component's tag stands in the image, where the bytes lie in the sheet, what the field is, and its default.
+// Where the component's tag stands in the image, where the bytes lie in the sheet (a trigger has none), what the field is, and its default,
+// of as many bytes as the kind has.
 pub struct Field {
     pub image: ImagePlace,
     pub sheet: SheetPlace,
@@ -35,7 +36,7 @@ impl Field {
         Work::start(kind, value, self.default)
     }
 
-    // Stores what a finished visit shows.
+    // Stores what the cells show, where the last ENTER said that it can be stored.
     pub fn finish(self, sheet: &mut [u8], work: Work)
         ensures { λ _. ⌜ now (sheet .exit) ≡ finishedIn self work (now (sheet .entry)) ⌝ }
     {

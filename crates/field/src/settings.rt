@@ -1,7 +1,7 @@
 // Whether the settings that an image gives a field are good: what refusal 9 asks.
 ghost use mathlib.Core.Path.{_≡_};
 ghost use Prim.Native.Nat.{_≤_};
-ghost use Rattle.field.specs.Settings.{places, countedCells, stepFits, widthFits, settled, settingsFit};
+ghost use Rattle.field.specs.Settings.{places, countedCells, stepFits, widthFits, goodSettings, settingsFit};
 use crate::kind::CounterSettings;
 use crate::kind::Kind;
 use crate::value::Value;
@@ -25,7 +25,7 @@ fn places(x: u16) -> u8
     5
 }
 
-// The cells that a counter's number takes, with 32,768 added to it.
+// The display cells that a counter's number takes; the number is given with 32,768 added.
 pub fn counted_cells(x: u16) -> u8
     ensures { λ r. ⌜ r ≡ countedCells x ⌝ }
 {
@@ -55,8 +55,8 @@ fn width_fits(s: CounterSettings) -> bool
     false
 }
 
-fn settled(kind: Kind) -> bool
-    ensures { λ r. ⌜ r ≡ settled kind ⌝ }
+fn good_settings(kind: Kind) -> bool
+    ensures { λ r. ⌜ r ≡ goodSettings kind ⌝ }
 {
     match kind {
         Kind::Integer(_) => true,
@@ -70,7 +70,7 @@ fn settled(kind: Kind) -> bool
         Kind::Date(_) => true,
         Kind::Switch(n) => {
             if 1 <= n {
-                return n <= 32;
+                return n <= Kind::MAX_BITS;
             }
             false
         }
@@ -83,7 +83,7 @@ fn settled(kind: Kind) -> bool
 pub fn settings_fit(kind: Kind, default: Value) -> bool
     ensures { λ r. ⌜ r ≡ settingsFit kind default ⌝ }
 {
-    if settled(kind) {
+    if good_settings(kind) {
         return in_range(kind, default.number());
     }
     false

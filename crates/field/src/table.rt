@@ -23,7 +23,7 @@ pub struct Cell {
     pub high: u32,
     pub step: u32,
     pub sets: bool,
-    pub types: bool,
+    pub typed: bool,
 }
 
 fn long_or(long: bool, a: u8, b: u8) -> u8
@@ -131,7 +131,7 @@ impl Cell {
             high,
             step,
             sets: false,
-            types: false,
+            typed: false,
         }
     }
 
@@ -144,7 +144,7 @@ impl Cell {
             high: 1,
             step: 1,
             sets: true,
-            types: false,
+            typed: false,
         }
     }
 
@@ -157,7 +157,7 @@ impl Cell {
             high,
             step: 1,
             sets: false,
-            types: true,
+            typed: true,
         }
     }
 

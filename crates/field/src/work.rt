@@ -1,11 +1,11 @@
 // The working copy of a visit: from a field's bytes to cells and back, for every kind.
 ghost use mathlib.Core.Path.{_≡_};
 ghost use mathlib.Core.List.{[], _∷_};
-ghost use Prim.Native.Nat.{_*_, _<_};
+ghost use Prim.Native.Nat.{_*_, _/_, _%_, _<_};
 ghost use lib.ListN.{getD};
 ghost use Rattle.laws.specs.Choice.{if_then_else_, _and_};
 ghost use Rattle.field.specs.Table.{cellOf};
-ghost use Rattle.field.specs.Cells.{biased, cellsOf, storedIn, showable, stores, within, legal, inRange, workOf, started, finished};
+ghost use Rattle.field.specs.Cells.{biased, cellsOf, storedIn, inSpan, stores, within, legal, inRange, workOf, started, finished};
 use crate::kind::Kind;
 use crate::numeral::Numeral;
 use crate::table::cell_of;
@@ -23,6 +23,13 @@ fn bias(x: u64) -> u64
     ensures { λ r. ⌜ (r ≡ biased x) × (r < 65536) ⌝ }
 {
     (x + 32768) % 65536
+}
+
+// The seconds of a time, where it has them.
+fn third(long: bool, x: u32) -> u32
+    ensures { λ r. ⌜ r ≡ if long then x / 65536 % 256 else 0 ⌝ }
+{
+    if long { x / 65536 % 256 } else { 0 }
 }
 
 fn three(a: u32, b: u32, c: u32) -> Work
@@ -43,7 +50,7 @@ impl Work {
         match kind {
             Kind::Integer(f) => f.numeral().in_digits(x as u64),
             Kind::Counter(_) => three(bias(x as u64) as u32, 0, 0),
-            Kind::Time(_) => three(x % 256, x / 256 % 256, x / 65536 % 256),
+            Kind::Time(long) => three(x % 256, x / 256 % 256, third(long, x)),
             Kind::Date(_) => three(x / 65536, x / 256 % 256, x % 256),
             Kind::Switch(n) => Numeral::of_bits(n).in_digits(x as u64),
             Kind::Option {
@@ -54,7 +61,7 @@ impl Work {
         }
     }
 
-    // A cell, 0 past the last.
+    // A cell, 0 past the 32nd.
     pub fn cell(self, i: usize) -> u64
         ensures { λ r. ⌜ (r ≡ getD (self .cells) i 0) × (r < 4294967296) ⌝ }
     {
@@ -146,7 +153,7 @@ impl Work {
         Work::showing(kind, default.number())
     }
 
-    // The bytes that a finished visit stores.
+    // The value that the cells stand for: what the last ENTER stores.
     pub fn finish(self, kind: Kind) -> Value
         ensures { λ r. ⌜ r ≡ finished kind self ⌝ }
     {
@@ -154,8 +161,8 @@ impl Work {
     }
 }
 
-fn showable(kind: Kind, x: u32) -> bool
-    ensures { λ r. ⌜ r ≡ showable kind x ⌝ }
+fn in_span(kind: Kind, x: u32) -> bool
+    ensures { λ r. ⌜ r ≡ inSpan kind x ⌝ }
 {
     match kind {
         Kind::Integer(f) => f.numeral().spans(x as u64),
@@ -171,12 +178,12 @@ fn showable(kind: Kind, x: u32) -> bool
     }
 }
 
-// Whether a number is in the range of its field.
+// Whether a number that the field's bytes can hold is in its range.
 pub fn in_range(kind: Kind, x: u32) -> bool
     ensures { λ r. ⌜ r ≡ inRange kind x ⌝ }
 {
     let w = Work::showing(kind, x);
-    if showable(kind, x) {
+    if in_span(kind, x) {
         return w.legal(kind);
     }
     false

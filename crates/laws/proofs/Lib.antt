@@ -1,5 +1,5 @@
 pub mod Cases
 pub mod Lists
 pub mod Frame
-pub mod Pen
+pub mod Overwriting
 pub mod Numerals

@@ -12,7 +12,7 @@ use Rattle.laws.specs.Choice.{if_then_else_, _<?_}
 use Rattle.laws.specs.Overwrite.{over}
 use Rattle.laws.specs.Digits.{digitsOf, numberFrom, lowFirst, fromLow}
 use Rattle.laws.proofs.Cases.{by-test, if-lt, if-ge}
-use Rattle.laws.proofs.Pen.{over-snoc}
+use Rattle.laws.proofs.Overwriting.{over-snoc}
 
 pub number-snoc : (b a : ℕ) (ds : List ℕ) (d : ℕ) → numberFrom b a (ds ++ (d ∷ [])) ≡ numberFrom b a ds * b + d
 unfolding numberFrom

@@ -7,7 +7,7 @@ use native.Mathlib.Nat.{mod-lt}
 use lib.ListN.{length, length-set}
 use Rattle.laws.specs.Overwrite.{over}
 use Rattle.laws.specs.Digits.{digitsOf}
-use Rattle.laws.proofs.Pen.{over-nil}
+use Rattle.laws.proofs.Overwriting.{over-nil}
 use Rattle.laws.proofs.Numerals.{digits-turn}
 use Rattle.field.proofs.numeral.write_digits.Statement.{statement}
 use Rattle.field.proofs.numeral.write_digits.Tie as tie

@@ -10,20 +10,20 @@ use Rattle.field.proofs.work.in_range.Tie as tie
 showing-requires : tie.Need-showing-requires
 showing-requires c κs = search needs
 
-showable-requires : tie.Need-showable-requires
-showable-requires c κs = search needs
+in-span-requires : tie.Need-in-span-requires
+in-span-requires c κs = search needs
 
 legal-requires : tie.Need-legal-requires
 legal-requires c κs = search needs
 
 returns : tie.Need-returns
 unfolding inRange workOf _and_
-returns c = simp (c .legal .ensures, c .before .before .before .showing .ensures, legal-padded, ← c .before .before .showable .ensures, c .before .if1 .taken)
+returns c = simp (c .legal .ensures, c .before .before .before .showing .ensures, legal-padded, ← c .before .before .in-span .ensures, c .before .if1 .taken)
 
 returns-2 : tie.Need-returns-2
 unfolding inRange _and_
-returns-2 c = simp (← c .before .showable .ensures, c .if1 .left)
+returns-2 c = simp (← c .before .in-span .ensures, c .if1 .left)
 
 pub in-range-spec : {M : Type 1} → statement M
 in-range-spec =
-    tie.close (tie.spec showing-requires showable-requires legal-requires returns returns-2)
+    tie.close (tie.spec showing-requires in-span-requires legal-requires returns returns-2)

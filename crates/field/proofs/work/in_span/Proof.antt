@@ -1,9 +1,9 @@
 -- Each return is the case of the definition that the tests on its path choose.
-use Rattle.field.specs.Cells.{showable}
+use Rattle.field.specs.Cells.{inSpan}
 use Rattle.field.proofs.Bounds.{format-sound, bits-sound}
 use borrow.Author.Needs.{needs}
-use Rattle.field.proofs.work.showable.Statement.{statement}
-use Rattle.field.proofs.work.showable.Tie as tie
+use Rattle.field.proofs.work.in_span.Statement.{statement}
+use Rattle.field.proofs.work.in_span.Tie as tie
 
 enum-known-kind : tie.Need-enum-known-kind
 enum-known-kind c = search needs
@@ -39,35 +39,35 @@ enum-told-5 : tie.Need-enum-told-5
 enum-told-5 c = search needs
 
 returns : tie.Need-returns
-unfolding showable
+unfolding inSpan
 returns c = simp (c .spans .ensures, c .before .numeral .ensures, c .before .before .before .kind .given .1)
 
 returns-2 : tie.Need-returns-2
-unfolding showable
+unfolding inSpan
 returns-2 c = simp (c .enum-told .given .1)
 
 returns-3 : tie.Need-returns-3
-unfolding showable
+unfolding inSpan
 returns-3 c = simp (c .enum-told2 .given .1)
 
 returns-4 : tie.Need-returns-4
-unfolding showable
+unfolding inSpan
 returns-4 c = simp (c .enum-told3 .given .1)
 
 returns-5 : tie.Need-returns-5
-unfolding showable
+unfolding inSpan
 returns-5 c = simp (c .spans2 .ensures, c .before .of-bits .ensures, c .before .before .before .kind2 .given .1)
 
 returns-6 : tie.Need-returns-6
-unfolding showable
+unfolding inSpan
 returns-6 c = simp (c .enum-told4 .given .1)
 
 returns-7 : tie.Need-returns-7
-unfolding showable
+unfolding inSpan
 returns-7 c = simp (c .enum-told5 .given .1)
 
-pub showable-spec : {M : Type 1} → statement M
-showable-spec =
+pub in-span-spec : {M : Type 1} → statement M
+in-span-spec =
     tie.close
     (tie.spec
     enum-known-kind

@@ -1,10 +1,10 @@
 -- Each return is the case of the definition that the tests on its path choose.
 use Rattle.laws.specs.Choice.{_and_}
 use borrow.Author.Tests.{le-leb, lt-leb}
-use Rattle.field.specs.Settings.{settled}
+use Rattle.field.specs.Settings.{goodSettings}
 use borrow.Author.Needs.{needs}
-use Rattle.field.proofs.settings.settled.Statement.{statement}
-use Rattle.field.proofs.settings.settled.Tie as tie
+use Rattle.field.proofs.settings.good_settings.Statement.{statement}
+use Rattle.field.proofs.settings.good_settings.Tie as tie
 
 enum-told : tie.Need-enum-told
 enum-told c = search needs
@@ -19,7 +19,7 @@ width-fits-requires : tie.Need-width-fits-requires
 width-fits-requires c κs = search needs
 
 returns : tie.Need-returns
-unfolding settled _and_
+unfolding goodSettings _and_
 returns c = simp (c .width-fits .ensures, c .before .before .before .before .kind .given .1, ← c .before .before .step-fits .ensures, c .before .if1 .taken)
 
 enum-told-2 : tie.Need-enum-told-2
@@ -32,7 +32,7 @@ enum-known-kind-2 : tie.Need-enum-known-kind-2
 enum-known-kind-2 c = search needs
 
 returns-2 : tie.Need-returns-2
-unfolding settled _and_
+unfolding goodSettings _and_
 returns-2 c = simp (c .before .before .kind2 .given .1, le-leb _ _ (c .if2 .taken))
 
 enum-known-kind-3 : tie.Need-enum-known-kind-3
@@ -42,35 +42,35 @@ enum-told-4 : tie.Need-enum-told-4
 enum-told-4 c = search needs
 
 returns-3 : tie.Need-returns-3
-unfolding settled _and_
+unfolding goodSettings _and_
 returns-3 c = simp (c .enum-told .given .1)
 
 returns-4 : tie.Need-returns-4
-unfolding settled _and_
+unfolding goodSettings _and_
 returns-4 c = simp (c .before .before .before .kind .given .1, ← c .before .step-fits .ensures, c .if1 .left)
 
 returns-5 : tie.Need-returns-5
-unfolding settled _and_
+unfolding goodSettings _and_
 returns-5 c = simp (c .enum-told2 .given .1)
 
 returns-6 : tie.Need-returns-6
-unfolding settled _and_
+unfolding goodSettings _and_
 returns-6 c = simp (c .enum-told3 .given .1)
 
 returns-7 : tie.Need-returns-7
-unfolding settled _and_
+unfolding goodSettings _and_
 returns-7 c = simp (c .before .before .kind2 .given .1, lt-leb _ _ (c .if2 .left))
 
 returns-8 : tie.Need-returns-8
-unfolding settled _and_
+unfolding goodSettings _and_
 returns-8 c = simp (c .before .kind3 .given .1)
 
 returns-9 : tie.Need-returns-9
-unfolding settled _and_
+unfolding goodSettings _and_
 returns-9 c = simp (c .enum-told4 .given .1)
 
-pub settled-spec : {M : Type 1} → statement M
-settled-spec =
+pub good-settings-spec : {M : Type 1} → statement M
+good-settings-spec =
     tie.close
     (tie.spec
     enum-told
