@@ -4,7 +4,8 @@ use mathlib.Core.Path.{_≡_, refl, ap, _∙_}
 use mathlib.Core.List.{List, [], _∷_}
 use mathlib.Core.Bool.{Bool}
 use native.Mathlib.Omega.{arith}
-use lib.ListN.{getD, set, replicate}
+use lib.ListN.{length, getD, set, replicate, drop-of-length-le}
+use lib.Seq.{take-nil}
 use Rattle.laws.specs.Choice.{if_then_else_, _and_, _<?_}
 use Rattle.laws.specs.Parts.{partAt}
 use Rattle.laws.specs.Overwrite.{over, fit}
@@ -46,6 +47,11 @@ pub part-four : (at n : ℕ) (s : List ℕ) → fit 0 4 (partAt at n s)
     ∷ (if 2 <? n then byteAt s (at + 2) else 0) ∷ (if 3 <? n then byteAt s (at + 3) else 0) ∷ []
 part-four at n s =
     fit-four 0 (partAt at n s) ∙ rw (part-at at n 0 s, part-at at n 1 s, part-at at n 2 s, part-at at n 3 s, add-zero)
+
+-- a value past the end
+pub part-none : (at n : ℕ) (s : List ℕ) → length s ≤ at → fit 0 4 (partAt at n s) ≡ 0 ∷ 0 ∷ 0 ∷ 0 ∷ []
+unfolding fit
+part-none at n s h = rw (drop-of-length-le s {i = at} h, take-nil)
 
 -- a value made byte by byte
 pub low-four : (n x : ℕ) → fit 0 4 (lowFirst n x)

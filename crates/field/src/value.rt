@@ -64,19 +64,31 @@ fn if_below(i: u8, count: u8, byte: u8) -> u8
     if i < count { byte } else { 0 }
 }
 
+// The value in count bytes at a place; past the end they are 0.
+pub fn value_at(bytes: &[u8], at: usize, count: u8) -> Value
+    ensures { λ r. ⌜ r ≡ valueAt at count (now (bytes .entry)) ⌝ }
+{
+    if at < bytes.len() {
+        let a = if_below(0, count, byte_at(bytes, at));
+        let b = if_below(1, count, byte_at(bytes, at + 1));
+        let c = if_below(2, count, byte_at(bytes, at + 2));
+        let d = if_below(3, count, byte_at(bytes, at + 3));
+        return Value {
+            bytes: [a, b, c, d],
+            count,
+        };
+    }
+    Value {
+        bytes: [0, 0, 0, 0],
+        count,
+    }
+}
+
 // The value in count bytes of the sheet at a place.
 pub fn load(sheet: &[u8], place: SheetPlace, count: u8) -> Value
     ensures { λ r. ⌜ r ≡ valueAt (place .0) count (now (sheet .entry)) ⌝ }
 {
-    let at = place.0 as usize;
-    let a = if_below(0, count, byte_at(sheet, at));
-    let b = if_below(1, count, byte_at(sheet, at + 1));
-    let c = if_below(2, count, byte_at(sheet, at + 2));
-    let d = if_below(3, count, byte_at(sheet, at + 3));
-    Value {
-        bytes: [a, b, c, d],
-        count,
-    }
+    value_at(sheet, place.0 as usize, count)
 }
 
 // Writes a value at the start of a part of the sheet; where it does not fit nothing changes.

@@ -1,5 +1,6 @@
 pub mod Cases
 pub mod Lists
+pub mod Rooms
 pub mod Frame
 pub mod Overwriting
 pub mod Numerals

@@ -1,11 +1,8 @@
 -- What the callees ensure, put together.
-use Rattle.field.proofs.Padded.{part-four}
+use Rattle.field.proofs.Padded.{part-four, part-none}
 use borrow.Author.Needs.{needs}
-use Rattle.field.proofs.value.load.Statement.{statement}
-use Rattle.field.proofs.value.load.Tie as tie
-
-cast-at : tie.Need-cast-at
-cast-at c = search needs
+use Rattle.field.proofs.value.value_at.Statement.{statement}
+use Rattle.field.proofs.value.value_at.Tie as tie
 
 byte-at-requires : tie.Need-byte-at-requires
 byte-at-requires c κs = search needs
@@ -43,11 +40,13 @@ if-below-requires-4 c κs = search needs
 returns : tie.Need-returns
 returns c = simp (c .before .before .before .before .before .before .if-below .ensures, c .before .before .before .before .if-below2 .ensures, c .before .before .if-below3 .ensures, c .if-below4 .ensures, c .before .before .before .before .before .before .before .byte-at .ensures, c .before .before .before .before .before .byte-at2 .ensures, c .before .before .before .byte-at3 .ensures, c .before .byte-at4 .ensures, part-four)
 
-pub load-spec : {M : Type 1} → statement M
-load-spec =
+returns-2 : tie.Need-returns-2
+returns-2 c = rw (part-none (c .before .before .args .at) (c .before .before .args .count) (c .before .before .args .bytes .now) (c .if1 .left))
+
+pub value-at-spec : {M : Type 1} → statement M
+value-at-spec =
     tie.close
     (tie.spec
-    cast-at
     byte-at-requires
     if-below-requires
     add-byte-at
@@ -59,4 +58,5 @@ load-spec =
     add-byte-at-3
     byte-at-requires-4
     if-below-requires-4
-    returns)
+    returns
+    returns-2)

@@ -1,0 +1,10 @@
+pub mod Example
+pub mod Agreement
+pub mod Turning
+pub mod Runs
+pub mod Titles
+pub mod Aligning
+pub mod Heads
+pub mod Parts
+pub mod Codes
+pub mod Agreeing

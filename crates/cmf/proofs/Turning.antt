@@ -1,0 +1,95 @@
+-- One turn of each loop over texts, digits and items, and the ways out of it; over variables, so that a loop's proof cites one line.
+use Prim.Native.Nat.{ℕ, zero, suc, _+_, _-_, _*_, _≤_, _<_, max}
+use mathlib.Core.Path.{_≡_, refl, sym, _∙_}
+use mathlib.Core.Bool.{true, false}
+use mathlib.Core.List.{List}
+use native.Mathlib.Omega.{arith}
+use native.Mathlib.Nat.{zero-mul, one-mul}
+use lib.ListN.{length}
+use borrow.Author.Tests.{le-leb, lt-leb, leb-true}
+use Rattle.laws.specs.Choice.{if_then_else_, _and_}
+use Rattle.laws.specs.Bytes.{byteAt, room}
+use Rattle.laws.proofs.Cases.{if-true, if-false, if-lt, if-ge, if-le, if-ind, by-test}
+use Rattle.laws.proofs.Rooms.{room-le}
+use Rattle.cmf.specs.Readers.{runOf, textsFrom, allDigits, itemFrom, tagBit, optionsEnd, headRead, headBy}
+use Rattle.cmf.specs.declared.text.Run.{Run}
+use Rattle.cmf.specs.declared.head.Head.{Head}
+
+module _ (im : List ℕ) where
+  -- ---- texts
+
+  pub texts-turn : (left end longest : ℕ) → 0 < left → room (length im) end 1 ≡ true → room (length im) (end + 1) (byteAt im end) ≡ true
+      → textsFrom im (left - 1) (end + 1 + byteAt im end) (max longest (byteAt im end)) ≡ textsFrom im left end longest
+  unfolding textsFrom
+  texts-turn zero end longest h a b = absurd (omega arith)
+  texts-turn (suc n) end longest h a b =
+      let e : suc n - 1 ≡ n = omega arith in
+      rw e (sym (if-true _ _ a ∙ if-true _ _ b))
+
+  -- no length byte, or not all bytes behind it
+  pub texts-none : (left end longest : ℕ) → 0 < left → room (length im) end 1 ≡ false → textsFrom im left end longest ≡ runOf false end longest
+  unfolding textsFrom
+  texts-none zero end longest h a = absurd (omega arith)
+  texts-none (suc n) end longest h a = if-false _ _ a
+
+  pub texts-cut : (left end longest : ℕ) → 0 < left → room (length im) end 1 ≡ true → room (length im) (end + 1) (byteAt im end) ≡ false
+      → textsFrom im left end longest ≡ runOf false end longest
+  unfolding textsFrom
+  texts-cut zero end longest h a b = absurd (omega arith)
+  texts-cut (suc n) end longest h a b = if-true _ _ a ∙ if-false _ _ b
+
+  -- texts that fit end in the image
+  pub texts-inside : (n at m : ℕ) → at ≤ length im → textsFrom im n at m .fits ≡ true → textsFrom im n at m .end ≤ length im
+  unfolding textsFrom
+  texts-inside zero at m h = λ e. h
+  texts-inside (suc n) at m h =
+      if-ind (λ (t : Run). t .fits ≡ true → t .end ≤ length im) (room (length im) at 1)
+      (λ a. if-ind (λ (t : Run). t .fits ≡ true → t .end ≤ length im) (room (length im) (at + 1) (byteAt im at))
+      (λ b. texts-inside n (at + 1 + byteAt im at) (max m (byteAt im at)) (room-le (length im) (at + 1) (byteAt im at) b))
+      (λ b e. h)) (λ a e. h)
+
+  -- ---- digits
+
+  pub digits-turn : (left k : ℕ) → 0 < left → 0x30 ≤ byteAt im k → byteAt im k ≤ 0x39 → allDigits im (left - 1) (k + 1) ≡ allDigits im left k
+  unfolding allDigits _and_
+  digits-turn zero k h a b = absurd (omega arith)
+  digits-turn (suc n) k h a b =
+      let e : suc n - 1 ≡ n = omega arith in
+      simp (e, le-leb 0x30 (byteAt im k) a, le-leb (byteAt im k) 0x39 b)
+
+  pub digits-low : (left k : ℕ) → 0 < left → byteAt im k < 0x30 → allDigits im left k ≡ false
+  unfolding allDigits _and_
+  digits-low zero k h a = absurd (omega arith)
+  digits-low (suc n) k h a = simp (lt-leb 0x30 (byteAt im k) a)
+
+  pub digits-high : (left k : ℕ) → 0 < left → 0x30 ≤ byteAt im k → 0x39 < byteAt im k → allDigits im left k ≡ false
+  unfolding allDigits _and_
+  digits-high zero k h a b = absurd (omega arith)
+  digits-high (suc n) k h a b = simp (le-leb 0x30 (byteAt im k) a, lt-leb (byteAt im k) 0x39 b)
+
+  -- ---- items
+
+  pub items-turn : (left at : ℕ) → 0 < left → at < length im → itemFrom im (left - 1) (at + 1 + byteAt im at) ≡ itemFrom im left at
+  unfolding itemFrom
+  items-turn zero at h a = absurd (omega arith)
+  items-turn (suc n) at h a =
+      let e : suc n - 1 ≡ n = omega arith in
+      rw e (sym (if-lt at (length im) _ _ a))
+
+  pub items-out : (left at : ℕ) → length im ≤ at → itemFrom im left at ≡ at
+  unfolding itemFrom
+  items-out zero at a = refl
+  items-out (suc n) at a = if-ge at (length im) _ _ a
+
+-- a head whose options and password are all there
+pub head-whole : (im : List ℕ) (p tag : ℕ) (t : Run) (h : Head) → optionsEnd p tag ≤ length im → t .fits ≡ true → tagBit 16 tag ≤ tagBit 8 tag
+    → h ≡ headRead im p tag (t .end) → h ≡ headBy im p tag t
+unfolding headBy
+head-whole im p tag t h a b d e =
+    e ∙ sym (if-le (optionsEnd p tag) (length im) _ _ a ∙ if-true _ _ b ∙ if-le (tagBit 16 tag) (tagBit 8 tag) _ _ d)
+
+-- a product of two bits
+pub bits-le : (a b : ℕ) → a ≤ 1 → b ≤ 1 → a * b ≤ 1
+bits-le zero b h k = rw zero-mul (omega arith)
+bits-le (suc zero) b h k = rw one-mul k
+bits-le (suc (suc a)) b h k = absurd (omega arith)

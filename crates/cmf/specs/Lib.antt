@@ -1,0 +1,5 @@
+pub mod Limits
+pub mod Layouts
+pub mod Grammar
+pub mod Readers
+pub mod Places

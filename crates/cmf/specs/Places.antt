@@ -1,0 +1,37 @@
+-- The way through an image: the lines of a table and the components of a line, as lists of their places.
+use Prim.Native.Nat.{ℕ, zero, suc, _+_}
+use mathlib.Core.List.{List, [], _∷_}
+use lib.ListN.{length}
+use Rattle.laws.specs.Choice.{if_then_else_}
+use Rattle.cmf.specs.Limits.{mostLinesOfTable}
+use Rattle.cmf.specs.Readers.{titleAt, headAt, componentAt}
+
+-- the lines from one on to the last of the table, at most k
+unfoldable pub linesFrom : List ℕ → ℕ → ℕ → List ℕ
+linesFrom im zero p = []
+linesFrom im (suc k) p = p ∷ (if headAt im p .last then [] else linesFrom im k (headAt im p .next))
+
+-- the lines of a table; one more than there may be is looked for
+unfoldable pub linesOf : List ℕ → ℕ → List ℕ
+linesOf im t = linesFrom im (mostLinesOfTable + 1) (titleAt im t .line)
+
+-- the components from one on to the last of the line, at most k
+unfoldable pub componentsFrom : List ℕ → ℕ → ℕ → List ℕ
+componentsFrom im zero c = []
+componentsFrom im (suc k) c = c ∷ (if componentAt im c .last then [] else componentsFrom im k (componentAt im c .next))
+
+-- the components of a line; each takes a byte at least, so that the image's length is enough
+unfoldable pub componentsOf : List ℕ → ℕ → List ℕ
+componentsOf im p = componentsFrom im (length im + 1) (headAt im p .component)
+
+-- the line k lines further on, and line k of a table, from 0
+unfoldable pub lineFrom : List ℕ → ℕ → ℕ → ℕ
+lineFrom im zero p = p
+lineFrom im (suc k) p = lineFrom im k (headAt im p .next)
+
+unfoldable pub lineAt : List ℕ → ℕ → ℕ → ℕ
+lineAt im t k = lineFrom im k (titleAt im t .line)
+
+-- how many lines a table has
+unfoldable pub lineCount : List ℕ → ℕ → ℕ
+lineCount im t = length (linesOf im t)

@@ -1,0 +1,315 @@
+// A component of a line: by its code how many bytes it has, which texts follow, and which field it is.
+ghost use mathlib.Core.Path.{_≡_};
+ghost use Prim.Native.Nat.{_+_, _%_, _<_, _≤_};
+ghost use lib.ListN.{length};
+ghost use mathlib.Core.Bool.{true, false};
+ghost use Rattle.laws.specs.Choice.{if_then_else_, _=?_};
+ghost use Rattle.laws.specs.Bytes.{room};
+ghost use Rattle.field.specs.Cells.{biased};
+ghost use Rattle.cmf.specs.Readers.{tagBit, textsFrom, fixedBytes, textCount, given, counterOf, kindAt, defaultPlace, sheetPlaceAt, fieldBy, componentRefused, componentRead, laidOut, componentBy, componentAt};
+use crate::image::Image;
+use crate::text::Run;
+use crate::text::read_texts;
+use field::kind::CounterSettings;
+use field::kind::Format;
+use field::kind::ImagePlace;
+use field::kind::Kind;
+use field::kind::SheetPlace;
+use field::record::Field;
+use field::settings::settings_fit;
+use field::table::profile_of;
+use field::value::Value;
+use field::value::value_at;
+use laws::byte_at;
+use laws::room;
+use laws::word_at;
+
+// code: 0, or 6, 7 or 9. holds: it is a field, and no constant string. next: the place of the next component.
+pub struct Component {
+    pub code: u8,
+    pub last: bool,
+    pub editable: bool,
+    pub holds: bool,
+    pub field: Field,
+    pub end: usize,
+    pub next: usize,
+}
+
+// The bytes before a component's texts, its tag among them.
+fn fixed_bytes(code: u8, edit: u8) -> usize
+    ensures { λ r. ⌜ (r ≡ fixedBytes code edit) × (r ≤ 23) ⌝ }
+{
+    if code <= 0x04 {
+        return 7;
+    }
+    if code <= 0x0a {
+        return 8;
+    }
+    if code <= 0x0c {
+        return 10;
+    }
+    match code {
+        0x0d => 15,
+        0x0e => 23,
+        0x0f => 9,
+        0x10 => 8,
+        0x11 => 10,
+        0x12 => 9,
+        0x13 => 14,
+        0x14 => 10,
+        0x15 => {
+            if edit == 1 {
+                return 6;
+            }
+            1
+        }
+        _ => 4,
+    }
+}
+
+// How many texts follow them.
+fn text_count(image: &[u8], at: usize, code: u8) -> usize
+    requires { ⌜ at < length (now image) ⌝ }
+    ensures { λ r. ⌜ r ≡ textCount (now (image .entry)) at code ⌝ }
+{
+    if code < 0x13 {
+        return 0;
+    }
+    if code <= 0x14 {
+        return byte_at(image, at + 7) as usize;
+    }
+    if code <= 0x16 {
+        return 1;
+    }
+    0
+}
+
+// Whether length and field-width of an option agree with its items.
+fn option_given(image: &[u8], at: usize, t: Run) -> bool
+    requires { ⌜ at < length (now image) ⌝ }
+    ensures { λ r. ⌜ r ≡ given (now (image .entry)) at 0x14 0 t ⌝ }
+{
+    let length = byte_at(image, at + 6) as usize;
+    let width = byte_at(image, at + 8);
+    if at + length == t.end {
+        return width == t.longest;
+    }
+    false
+}
+
+// Whether section 7 gives the component and it is not left for later.
+fn is_given(image: &[u8], at: usize, code: u8, edit: u8, t: Run) -> bool
+    requires { ⌜ at < length (now image) ⌝ }
+    ensures { λ r. ⌜ r ≡ given (now (image .entry)) at code edit t ⌝ }
+{
+    if code <= 0x0a {
+        return true;
+    }
+    if code == 0x0d {
+        return true;
+    }
+    if code < 0x0f {
+        return false;
+    }
+    if code <= 0x12 {
+        return true;
+    }
+    match code {
+        0x13 => at + byte_at(image, at + 6) as usize == t.end,
+        0x14 => option_given(image, at, t),
+        0x15 => edit == 0,
+        _ => code == 0x17,
+    }
+}
+
+fn bias(x: u16) -> u16
+    ensures { λ r. ⌜ r ≡ biased x ⌝ }
+{
+    ((x as u32 + 32768) % 65536) as u16
+}
+
+fn counter_of(image: &[u8], at: usize) -> CounterSettings
+    requires { ⌜ at < length (now image) ⌝ }
+    ensures { λ r. ⌜ r ≡ counterOf (now (image .entry)) at ⌝ }
+{
+    CounterSettings {
+        min: bias(word_at(image, at + 6)),
+        max: bias(word_at(image, at + 8)),
+        step: word_at(image, at + 10),
+        width: byte_at(image, at + 14),
+    }
+}
+
+// The kind that a code gives; what is no field counts as a trigger.
+fn kind_at(image: &[u8], at: usize, code: u8) -> Kind
+    requires { ⌜ at < length (now image) ⌝ }
+    ensures { λ r. ⌜ r ≡ kindAt (now (image .entry)) at code ⌝ }
+{
+    if code <= 0x0a {
+        return Kind::Integer(Format::of_code(code));
+    }
+    match code {
+        0x0d => Kind::Counter(counter_of(image, at)),
+        0x0f => Kind::Time(true),
+        0x10 => Kind::Time(false),
+        0x11 => Kind::Date(true),
+        0x12 => Kind::Date(false),
+        0x13 => Kind::Switch(byte_at(image, at + 7)),
+        0x14 => Kind::Option {
+            items: byte_at(image, at + 7),
+            longest: byte_at(image, at + 8),
+        },
+        _ => Kind::Trigger,
+    }
+}
+
+fn default_place(at: usize, code: u8) -> usize
+    requires { ⌜ at < 9223372036854775808 ⌝ }
+    ensures { λ r. ⌜ r ≡ defaultPlace at code ⌝ }
+{
+    match code {
+        0x0d => at + 12,
+        0x13 => at + 10,
+        0x14 => at + 9,
+        _ => at + 6,
+    }
+}
+
+fn sheet_place(image: &[u8], at: usize, code: u8) -> u16
+    requires { ⌜ at < length (now image) ⌝ }
+    ensures { λ r. ⌜ r ≡ sheetPlaceAt (now (image .entry)) at code ⌝ }
+{
+    if code < 0x15 {
+        return word_at(image, at + 4);
+    }
+    0
+}
+
+fn field_by(image: &[u8], at: usize, code: u8) -> Field
+    requires { ⌜ at < length (now image) ⌝ }
+    ensures { λ r. ⌜ r ≡ fieldBy (now (image .entry)) at code ⌝ }
+{
+    let kind = kind_at(image, at, code);
+    let default = value_at(image, default_place(at, code), profile_of(kind).bytes);
+    Field {
+        image: ImagePlace(at),
+        sheet: SheetPlace(sheet_place(image, at, code)),
+        kind,
+        default,
+    }
+}
+
+impl Component {
+    // Not all there, or no component: the last of its line, and it leads nowhere.
+    fn refused(image: &[u8], at: usize, code: u8) -> Self
+        ensures { λ r. ⌜ r ≡ componentRefused (now (image .entry)) at code ⌝ }
+    {
+        let field = Field {
+            image: ImagePlace(at),
+            sheet: SheetPlace(0),
+            kind: Kind::Trigger,
+            default: Value {
+                bytes: [0, 0, 0, 0],
+                count: 0,
+            },
+        };
+        Component {
+            code,
+            last: true,
+            editable: false,
+            holds: false,
+            field,
+            end: at,
+            next: at,
+        }
+    }
+}
+
+fn nine_unless(ok: bool) -> u8
+    ensures { λ r. ⌜ r ≡ if ok then 0 else 9 ⌝ }
+{
+    if ok { 0 } else { 9 }
+}
+
+// A trigger is editable whatever its edit bit.
+fn is_editable(code: u8, tag: u8) -> bool
+    ensures { λ r. ⌜ r ≡ if code =? 0x17 then true else tagBit 32 tag =? 1 ⌝ }
+{
+    if code == 0x17 {
+        return true;
+    }
+    tag / 32 % 2 == 1
+}
+
+// Every component but a constant string is a field.
+fn is_field(code: u8) -> bool
+    ensures { λ r. ⌜ r ≡ if code =? 0x15 then false else true ⌝ }
+{
+    if code == 0x15 {
+        return false;
+    }
+    true
+}
+
+// The component that ends at `end`.
+fn component_read(image: &[u8], at: usize, code: u8, tag: u8, end: usize) -> Component
+    requires { ⌜ (at < length (now image)) × (end ≤ length (now image)) ⌝ }
+    ensures { λ r. ⌜ r ≡ componentRead (now (image .entry)) at code tag end ⌝ }
+{
+    let field = field_by(image, at, code);
+    let kind = field.kind;
+    let default = field.default;
+    Component {
+        code: nine_unless(settings_fit(kind, default)),
+        last: tag / 128 % 2 == 1,
+        editable: is_editable(code, tag),
+        holds: is_field(code),
+        field,
+        end,
+        next: end + end % 2,
+    }
+}
+
+// The component with these texts behind its fixed bytes.
+fn laid_out(image: &[u8], at: usize, code: u8, tag: u8, t: Run) -> Component
+    requires { ⌜ (at < length (now image)) × (room (length (now image)) at (fixedBytes code (tagBit 32 tag)) ≡ true → t .fits ≡ true → t .end ≤ length (now image)) ⌝ }
+    ensures { λ r. ⌜ r ≡ laidOut (now (image .entry)) at code tag t ⌝ }
+{
+    let edit = tag / 32 % 2;
+    let whole = room(image, at, fixed_bytes(code, edit));
+    if whole {
+        if t.fits {
+            let given = is_given(image, at, code, edit, t);
+            if given {
+                return component_read(image, at, code, tag, t.end);
+            }
+            return Component::refused(image, at, 7);
+        }
+        return Component::refused(image, at, 6);
+    }
+    Component::refused(image, at, 6)
+}
+
+fn component_by(image: &[u8], at: usize, code: u8, tag: u8) -> Component
+    requires { ⌜ at < length (now image) ⌝ }
+    ensures { λ r. ⌜ r ≡ componentBy (now (image .entry)) at code tag ⌝ }
+{
+    if code < Image::CODES {
+        let edit = tag / 32 % 2;
+        let fixed = fixed_bytes(code, edit);
+        let t = read_texts(image, text_count(image, at, code), at + fixed);
+        return laid_out(image, at, code, tag, t);
+    }
+    Component::refused(image, at, 7)
+}
+
+// The component whose tag stands at a place.
+pub fn read_component(image: &[u8], at: usize) -> Component
+    ensures { λ r. ⌜ r ≡ componentAt (now (image .entry)) at ⌝ }
+{
+    if at < image.len() {
+        let tag = byte_at(image, at);
+        return component_by(image, at, tag % 32, tag);
+    }
+    Component::refused(image, at, 6)
+}

@@ -1,0 +1,124 @@
+// A line's head: its tag and its options.
+ghost use mathlib.Core.Path.{_≡_};
+ghost use Prim.Native.Nat.{_+_, _<_, _≤_};
+ghost use mathlib.Core.Bool.{true};
+ghost use lib.ListN.{length};
+ghost use Rattle.laws.specs.Choice.{if_then_else_};
+ghost use Rattle.cmf.specs.Readers.{textsFrom, passwordFits, headRefused, passwords, optionsEnd, headRead, headBy, headAt};
+use crate::image::Image;
+use crate::text::password_fits;
+use crate::text::read_texts;
+use laws::byte_at;
+use laws::word_at;
+
+// code: 0, or 6 or 7. good: its password, if it has one, is one. first, last: of its table. back: the distance from the line before.
+// next, table, password, component: the places of the next line, of the submenu's table, of the password, of the first component.
+pub struct Head {
+    pub code: u8,
+    pub good: bool,
+    pub first: bool,
+    pub last: bool,
+    pub submenu: bool,
+    pub protected: bool,
+    pub back: usize,
+    pub next: usize,
+    pub table: usize,
+    pub password: usize,
+    pub end: usize,
+    pub component: usize,
+}
+
+impl Head {
+    // Not all there, or no head: the last of its table, and it leads nowhere.
+    fn refused(p: usize, code: u8) -> Self
+        ensures { λ r. ⌜ r ≡ headRefused p code ⌝ }
+    {
+        Head {
+            code,
+            good: true,
+            first: false,
+            last: true,
+            submenu: false,
+            protected: false,
+            back: 0,
+            next: p,
+            table: p,
+            password: p,
+            end: p,
+            component: p,
+        }
+    }
+}
+
+fn is_good(image: &[u8], protected: bool, at: usize) -> bool
+    ensures { λ r. ⌜ r ≡ if protected then passwordFits (now (image .entry)) at else true ⌝ }
+{
+    if protected {
+        return password_fits(image, at);
+    }
+    true
+}
+
+// The head whose options are all in the image, and which ends at `end`.
+fn head_read(image: &[u8], p: usize, tag: u8, end: usize) -> Head
+    requires { ⌜ (p < length (now image)) × (end ≤ length (now image)) ⌝ }
+    ensures { λ r. ⌜ r ≡ headRead (now (image .entry)) p tag end ⌝ }
+{
+    let t = tag as usize;
+    let back = p + 1 + 2 * (1 - t / 2 % 2);
+    let submenu = back + 2 * (1 - t % 2) + 2 * (t / 4 % 2);
+    let password = submenu + 2 * (t / 8 % 2);
+    let protected = (t / 8 % 2) * (t / 16 % 2) == 1;
+    let good = is_good(image, protected, password);
+    let a = word_at(image, p + 1) as usize;
+    let b = word_at(image, back) as usize;
+    let d = word_at(image, submenu) as usize;
+    Head {
+        code: 0,
+        good,
+        first: t % 2 == 1,
+        last: t / 2 % 2 == 1,
+        submenu: t / 8 % 2 == 1,
+        protected,
+        back: b,
+        next: p + a,
+        table: Image::PROLOG + d,
+        password,
+        end,
+        component: end + end % 2,
+    }
+}
+
+// The head with this tag.
+fn head_by(image: &[u8], p: usize, tag: u8) -> Head
+    requires { ⌜ p < length (now image) ⌝ }
+    ensures { λ r. ⌜ r ≡ headBy (now (image .entry)) p tag (textsFrom (now (image .entry)) (passwords tag) (optionsEnd p tag) 0) ⌝ }
+{
+    let t = tag as usize;
+    let options = p + 1 + 2 * (1 - t / 2 % 2) + 2 * (1 - t % 2) + 2 * (t / 4 % 2) + 2 * (t / 8 % 2);
+    let run = read_texts(image, (t / 8 % 2) * (t / 16 % 2), options);
+    if options <= image.len() {
+        if run.fits {
+            if t / 16 % 2 <= t / 8 % 2 {
+                return head_read(image, p, tag, run.end);
+            }
+            return Head::refused(p, 7);
+        }
+        return Head::refused(p, 6);
+    }
+    Head::refused(p, 6)
+}
+
+// The head of the line whose tag stands at a place.
+pub fn read_head(image: &[u8], p: usize) -> Head
+    ensures { λ r. ⌜ r ≡ headAt (now (image .entry)) p ⌝ }
+{
+    if p < image.len() {
+        let tag = byte_at(image, p);
+        if tag < 32 {
+            return head_by(image, p, tag);
+        }
+        return Head::refused(p, 7);
+    }
+    Head::refused(p, 6)
+}

@@ -1,0 +1,40 @@
+// The prolog's record, and the numbers that the format and the paper fix.
+ghost use mathlib.Core.Path.{_≡_};
+ghost use Rattle.cmf.specs.Readers.{imageOf};
+use laws::byte_at;
+
+// The prolog's delays that a session asks for, in seconds, 0 for never: delay-to-top, and delay-password, which ends an entry.
+pub struct Image {
+    pub top: u8,
+    pub entry: u8,
+}
+
+impl Image {
+    // The bytes of the prolog; the top table follows them.
+    pub const PROLOG: usize = 10;
+
+    pub const MAX_BYTES: usize = 32768;
+    // Tables one below the other, the top table counted.
+    pub const MAX_DEPTH: usize = 8;
+
+    pub const MAX_TABLE_LINES: usize = 99;
+
+    pub const MAX_LINES: usize = 1024;
+
+    pub const MAX_FIELDS: usize = 256;
+
+    pub const MAX_SHEET: usize = 4096;
+
+    pub const MAX_PASSWORD: usize = 8;
+    // Codes of components that section 7 gives: 0 to 23.
+    pub const CODES: u8 = 24;
+
+    pub fn read(image: &[u8]) -> Self
+        ensures { λ r. ⌜ r ≡ imageOf (now (image .entry)) ⌝ }
+    {
+        Image {
+            top: byte_at(image, 5),
+            entry: byte_at(image, 7),
+        }
+    }
+}

@@ -1,0 +1,112 @@
+// Texts: a length byte and so many bytes; several of them one behind the other.
+ghost use mathlib.Core.Path.{_≡_};
+ghost use Rattle.cmf.specs.Readers.{textsFrom, allDigits, passwordFits, itemFrom};
+ghost use Prim.Native.Nat.{_+_, _<_, max};
+use crate::image::Image;
+use laws::byte_at;
+use laws::room;
+
+// Whether the texts are all in the image, where they end, and the length of the longest.
+pub struct Run {
+    pub fits: bool,
+    pub end: usize,
+    pub longest: u8,
+}
+
+fn larger(a: u8, b: u8) -> u8
+    ensures { λ r. ⌜ r ≡ max a b ⌝ }
+{
+    if a < b { b } else { a }
+}
+
+// So many texts from a place on.
+pub fn read_texts(image: &[u8], count: usize, at: usize) -> Run
+    ensures { λ r. ⌜ r ≡ textsFrom (now (image .entry)) count at 0 ⌝ }
+{
+    let mut end = at;
+    let mut longest = 0;
+    let mut left = count;
+    while 0 < left {
+        let head = room(image, end, 1);
+        if head {
+            let n = byte_at(image, end);
+            let whole = room(image, end + 1, n as usize);
+            if whole {
+                end = end + 1 + n as usize;
+                longest = larger(longest, n);
+                left = left - 1;
+            } else {
+                return Run {
+                    fits: false,
+                    end,
+                    longest,
+                };
+            }
+        } else {
+            return Run {
+                fits: false,
+                end,
+                longest,
+            };
+        }
+    }
+    Run {
+        fits: true,
+        end,
+        longest,
+    }
+}
+
+// Whether count bytes from a place on are ASCII digits.
+fn all_digits(image: &[u8], count: usize, at: usize) -> bool
+    requires { ⌜ at + count < 18446744073709551616 ⌝ }
+    ensures { λ r. ⌜ r ≡ allDigits (now (image .entry)) count at ⌝ }
+{
+    let mut k = at;
+    let mut left = count;
+    while 0 < left {
+        let b = byte_at(image, k);
+        if b < 0x30 {
+            return false;
+        }
+        if 0x39 < b {
+            return false;
+        }
+        k = k + 1;
+        left = left - 1;
+    }
+    true
+}
+
+// Whether the text at a place is a password that the paper allows.
+pub fn password_fits(image: &[u8], at: usize) -> bool
+    ensures { λ r. ⌜ r ≡ passwordFits (now (image .entry)) at ⌝ }
+{
+    if image.len() <= at {
+        return false;
+    }
+    let n = byte_at(image, at) as usize;
+    if n < 1 {
+        return false;
+    }
+    if Image::MAX_PASSWORD < n {
+        return false;
+    }
+    all_digits(image, n, at + 1)
+}
+
+// The place of the k-th of the texts from a place on.
+pub fn item_place(image: &[u8], k: usize, at: usize) -> usize
+    ensures { λ r. ⌜ r ≡ itemFrom (now (image .entry)) k at ⌝ }
+{
+    let mut place = at;
+    let mut left = k;
+    while 0 < left {
+        if image.len() <= place {
+            return place;
+        }
+        place = place + 1 + byte_at(image, place) as usize;
+        left = left - 1;
+    }
+    place
+}

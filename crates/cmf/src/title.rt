@@ -1,0 +1,30 @@
+// A table's title.
+ghost use mathlib.Core.Path.{_≡_};
+ghost use Rattle.cmf.specs.Readers.{titleAt};
+use crate::text::read_texts;
+
+// Where the title ends, and where the table's first line stands; code 6: not all of it is in the image.
+pub struct Title {
+    pub code: u8,
+    pub end: usize,
+    pub line: usize,
+}
+
+pub fn read_title(image: &[u8], at: usize) -> Title
+    ensures { λ r. ⌜ r ≡ titleAt (now (image .entry)) at ⌝ }
+{
+    let t = read_texts(image, 1, at);
+    if t.fits {
+        let end = t.end;
+        return Title {
+            code: 0,
+            end,
+            line: end + (1 - end % 2),
+        };
+    }
+    Title {
+        code: 6,
+        end: at,
+        line: at,
+    }
+}
