@@ -8,3 +8,4 @@ pub mod Heads
 pub mod Parts
 pub mod Codes
 pub mod Agreeing
+pub mod Onward

@@ -1,0 +1,12 @@
+pub mod Stood
+pub mod Takes
+pub mod Steps
+pub mod Parts
+pub mod Line
+pub mod Tables
+pub mod Accepted
+pub mod Unique
+pub mod Fields
+pub mod Reach
+pub mod Turns
+pub mod CodeSteps

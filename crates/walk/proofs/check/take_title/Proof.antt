@@ -1,0 +1,24 @@
+-- Each return is the case of the definition that the tests on its path choose.
+use Rattle.laws.specs.Choice.{if_then_else_}
+use borrow.Author.Tests.{eq-eqb, ne-eqb}
+use Rattle.walk.specs.Check.{takeTitle}
+use borrow.Author.Needs.{needs}
+use Rattle.walk.proofs.check.take_title.Statement.{statement}
+use Rattle.walk.proofs.check.take_title.Tie as tie
+
+passed-requires : tie.Need-passed-requires
+passed-requires c κs = search needs
+
+returns : tie.Need-returns
+unfolding takeTitle if_then_else_
+returns c = simp (c .passed .ensures, eq-eqb _ _ (c .before .if1 .taken))
+
+refused-requires : tie.Need-refused-requires
+refused-requires c κs = search needs
+
+returns-2 : tie.Need-returns-2
+unfolding takeTitle if_then_else_
+returns-2 c = simp (c .refused .ensures, ne-eqb _ _ (c .before .if1 .left))
+
+pub take-title-spec : {M : Type 1} → statement M
+take-title-spec = tie.close (tie.spec passed-requires returns refused-requires returns-2)

@@ -1,0 +1,333 @@
+// The check of an image and a sheet: refusals 2 to 11 in the order of the walk.
+ghost use mathlib.Core.Path.{_≡_};
+ghost use Prim.Native.Nat.{_+_, _<_};
+ghost use Rattle.laws.specs.Choice.{_and_, _=?_};
+ghost use Rattle.laws.specs.Bytes.{byteAt};
+ghost use lib.ListN.{length};
+ghost use Rattle.cmf.specs.Places.{componentsFrom};
+ghost use Rattle.walk.specs.Check.{padded, takeTitle, agrees, linePlaced, countLine, takeLine, takeField, takeComponent, onComponents, onLine, onTable, prologCode, checked};
+ghost use Rattle.walk.specs.Index.{capacity, seen};
+use crate::index::Entry;
+use crate::index::apart_from;
+use crate::index::set_entry;
+use crate::state::Walk;
+use cmf::component::Component;
+use cmf::component::read_component;
+use cmf::head::Head;
+use cmf::head::read_head;
+use cmf::image::Image;
+use cmf::title::Title;
+use cmf::title::read_title;
+use laws::byte_at;
+
+// What a check found: how far the walk came and its refusal number, and the fields that it reached, three numbers to a field.
+pub struct Checked {
+    pub walk: Walk,
+    pub index: [usize; 768],
+}
+
+// Whether what stands at a place follows what ended before it at once, or behind one zero byte.
+fn is_padded(image: &[u8], at: usize, place: usize) -> bool
+    ensures { λ r. ⌜ r ≡ padded (now (image .entry)) at place ⌝ }
+{
+    if at == place {
+        return true;
+    }
+    byte_at(image, at) == 0
+}
+
+fn take_title(t: Title, w: Walk) -> Walk
+    ensures { λ r. ⌜ r ≡ takeTitle t w ⌝ }
+{
+    if t.code == 0 {
+        return w.passed(t.end);
+    }
+    w.refused(t.code)
+}
+
+// Whether a line's first mark and pointer back agree with the walk; n lines of its table come before it.
+fn is_agreeing(n: usize, before: usize, p: usize, h: Head) -> bool
+    ensures { λ r. ⌜ r ≡ agrees n before p h ⌝ }
+{
+    if n == 0 {
+        return h.first;
+    }
+    if h.first {
+        return false;
+    }
+    if before <= p {
+        return h.back == p - before;
+    }
+    false
+}
+
+fn is_placed(image: &[u8], n: usize, before: usize, p: usize, h: Head, w: Walk) -> bool
+    ensures { λ r. ⌜ r ≡ linePlaced (now (image .entry)) n before p h w ⌝ }
+{
+    let at = w.at;
+    if p == at + (1 - at % 2) {
+        let zero = is_padded(image, at, p);
+        if zero {
+            return is_agreeing(n, before, p, h);
+        }
+        return false;
+    }
+    false
+}
+
+fn count_line(n: usize, h: Head, w: Walk) -> Walk
+    ensures { λ r. ⌜ r ≡ countLine n h w ⌝ }
+{
+    if Image::MAX_TABLE_LINES <= n {
+        return w.refused(8);
+    }
+    if Image::MAX_LINES <= w.lines {
+        return w.refused(8);
+    }
+    if h.good {
+        return Walk {
+            code: 0,
+            at: h.end,
+            lines: w.lines + 1,
+            fields: w.fields,
+        };
+    }
+    w.refused(9)
+}
+
+// A line's head at p.
+fn take_line(image: &[u8], n: usize, before: usize, p: usize, h: Head, w: Walk) -> Walk
+    ensures { λ r. ⌜ r ≡ takeLine (now (image .entry)) n before p h w ⌝ }
+{
+    if h.code == 0 {
+        let placed = is_placed(image, n, before, p, h, w);
+        if placed {
+            return count_line(n, h, w);
+        }
+        return w.refused(7);
+    }
+    w.refused(h.code)
+}
+
+// A field: counted, its settings, its bytes in the sheet.
+fn take_field(sheet: usize, c: Component, w: Walk, index: &mut [usize]) -> Walk
+    ensures { λ r. ⌜ seen r (now (index .exit)) ≡ takeField sheet (capacity (now (index .entry))) c (seen w (now (index .entry))) ⌝ }
+{
+    let k = w.fields;
+    let field = c.field;
+    let entry = Entry::of_field(field);
+    if index.len() / 3 <= k {
+        return w.refused(8);
+    }
+    if c.code != 0 {
+        return w.refused(c.code);
+    }
+    let inside = entry.in_sheet(sheet);
+    if !inside {
+        return w.refused(10);
+    }
+    let alone = apart_from(entry, index, k);
+    if !alone {
+        return w.refused(11);
+    }
+    set_entry(&mut *index, k, entry);
+    Walk {
+        code: 0,
+        at: c.end,
+        lines: w.lines,
+        fields: k + 1,
+    }
+}
+
+// A component at p.
+fn take_component(
+    image: &[u8],
+    sheet: usize,
+    p: usize,
+    c: Component,
+    w: Walk,
+    index: &mut [usize],
+) -> Walk
+    ensures { λ r. ⌜ seen r (now (index .exit)) ≡ takeComponent (now (image .entry)) sheet (capacity (now (index .entry))) p c (seen w (now (index .entry))) ⌝ }
+{
+    if c.code == 6 {
+        return w.refused(6);
+    }
+    let zero = is_padded(image, w.at, p);
+    if !zero {
+        return w.refused(7);
+    }
+    if c.holds {
+        return take_field(sheet, c, w, index);
+    }
+    if c.code != 0 {
+        return w.refused(c.code);
+    }
+    w.passed(c.end)
+}
+
+// The components of a line, the first of them at p.
+fn check_components(image: &[u8], sheet: usize, p: usize, w: Walk, index: &mut [usize]) -> Walk
+    ensures { λ r. ⌜ seen r (now (index .exit)) ≡ onComponents (now (image .entry)) sheet (capacity (now (index .entry))) (componentsFrom (now (image .entry)) (length (now (image .entry)) + 1) p) (seen w (now (index .entry))) ⌝ }
+{
+    let mut v = w;
+    let mut c = p;
+    let mut left = image.len() + 1;
+    while 0 < left {
+        let component = read_component(image, c);
+        v = take_component(image, sheet, c, component, v, &mut *index);
+        if v.code != 0 {
+            return v;
+        }
+        if component.last {
+            return v;
+        }
+        c = component.next;
+        left = left - 1;
+    }
+    v
+}
+
+// A line at p, with n lines of its table before it; `below` levels are left for its submenu.
+fn check_line(
+    image: &[u8],
+    sheet: usize,
+    below: usize,
+    n: usize,
+    before: usize,
+    p: usize,
+    w: Walk,
+    index: &mut [usize],
+) -> Walk
+    ensures { λ r. ⌜ seen r (now (index .exit)) ≡ onLine (now (image .entry)) sheet (capacity (now (index .entry))) (onTable (now (image .entry)) sheet (capacity (now (index .entry))) below) n before p (seen w (now (index .entry))) ⌝ }
+{
+    let h = read_head(image, p);
+    let v = take_line(image, n, before, p, h, w);
+    if v.code != 0 {
+        return v;
+    }
+    let q = check_components(image, sheet, h.component, v, &mut *index);
+    if q.code != 0 {
+        return q;
+    }
+    if h.submenu {
+        let t = check_table(image, sheet, below, h.table, q, &mut *index);
+        return t.behind(q.at);
+    }
+    q
+}
+
+// The table at a place; `left` levels are left, its own among them.
+fn check_table(
+    image: &[u8],
+    sheet: usize,
+    left: usize,
+    at: usize,
+    w: Walk,
+    index: &mut [usize],
+) -> Walk
+    ensures { λ r. ⌜ seen r (now (index .exit)) ≡ onTable (now (image .entry)) sheet (capacity (now (index .entry))) left at (seen w (now (index .entry))) ⌝ }
+{
+    let t = read_title(image, at);
+    let mut v = take_title(t, w);
+    if v.code != 0 {
+        return v;
+    }
+    if left == 0 {
+        return v.refused(8);
+    }
+    let below = left - 1;
+    let mut n = 0;
+    let mut before = 0;
+    let mut p = t.line;
+    while n < Image::MAX_TABLE_LINES + 1 {
+        v = check_line(image, sheet, below, n, before, p, v, &mut *index);
+        if v.code != 0 {
+            return v;
+        }
+        let h = read_head(image, p);
+        if h.last {
+            return v;
+        }
+        before = p;
+        p = h.next;
+        n = n + 1;
+    }
+    v
+}
+
+// The prolog's refusal: 2 to 5, 0 for none.
+fn prolog_code(image: &[u8]) -> u8
+    ensures { λ r. ⌜ r ≡ prologCode (now (image .entry)) ⌝ }
+{
+    if image.len() < Image::PROLOG {
+        return 2;
+    }
+    if Image::MAX_BYTES < image.len() {
+        return 2;
+    }
+    let name = has_name(image);
+    if name {
+        let version = has_pair(image, 3, 0, 4);
+        if version {
+            let mark = has_pair(image, 8, 0xff, 0xfe);
+            if mark {
+                return 0;
+            }
+            return 5;
+        }
+        return 4;
+    }
+    3
+}
+
+fn has_name(image: &[u8]) -> bool
+    ensures { λ r. ⌜ r ≡ (byteAt (now (image .entry)) 0 =? 0x43) and ((byteAt (now (image .entry)) 1 =? 0x4d) and (byteAt (now (image .entry)) 2 =? 0x46)) ⌝ }
+{
+    if byte_at(image, 0) == 0x43 {
+        if byte_at(image, 1) == 0x4d {
+            return byte_at(image, 2) == 0x46;
+        }
+        return false;
+    }
+    false
+}
+
+fn has_pair(image: &[u8], at: usize, low: u8, high: u8) -> bool
+    requires { ⌜ at < 10 ⌝ }
+    ensures { λ r. ⌜ r ≡ (byteAt (now (image .entry)) at =? low) and (byteAt (now (image .entry)) (at + 1) =? high) ⌝ }
+{
+    if byte_at(image, at) == low {
+        return byte_at(image, at + 1) == high;
+    }
+    false
+}
+
+// The refusal number of an image for a sheet of so many bytes, 0 for none, and the fields that were reached.
+pub fn check(image: &[u8], sheet: usize) -> Checked
+    ensures { λ r. ⌜ seen (r .walk) (r .index) ≡ checked (now (image .entry)) sheet ⌝ }
+{
+    let mut index = [0usize; 768];
+    let start = Walk {
+        code: 0,
+        at: 0,
+        lines: 0,
+        fields: 0,
+    };
+    let code = prolog_code(image);
+    if code != 0 {
+        return Checked {
+            walk: start.refused(code),
+            index,
+        };
+    }
+    let walk = check_table(
+        image,
+        sheet,
+        Image::MAX_DEPTH,
+        Image::PROLOG,
+        start,
+        &mut index,
+    );
+    Checked { walk, index }
+}

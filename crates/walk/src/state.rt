@@ -1,0 +1,48 @@
+// Where the walk stands.
+ghost use mathlib.Core.Path.{_≡_};
+ghost use Rattle.walk.specs.Check.{refused, passed, behind};
+
+// The refusal number, 0 for none yet; where the last thing read ended; how many lines and fields were reached.
+pub struct Walk {
+    pub code: u8,
+    pub at: usize,
+    pub lines: usize,
+    pub fields: usize,
+}
+
+impl Walk {
+    pub(crate) fn refused(self, code: u8) -> Self
+        ensures { λ r. ⌜ r ≡ refused self code ⌝ }
+    {
+        Walk {
+            code,
+            at: self.at,
+            lines: self.lines,
+            fields: self.fields,
+        }
+    }
+
+    // A thing that ends at a place is read.
+    pub(crate) fn passed(self, at: usize) -> Self
+        ensures { λ r. ⌜ r ≡ passed self at ⌝ }
+    {
+        Walk {
+            code: 0,
+            at,
+            lines: self.lines,
+            fields: self.fields,
+        }
+    }
+
+    // On behind a line that ends at a place.
+    pub(crate) fn behind(self, at: usize) -> Self
+        ensures { λ r. ⌜ r ≡ behind self at ⌝ }
+    {
+        Walk {
+            code: self.code,
+            at,
+            lines: self.lines,
+            fields: self.fields,
+        }
+    }
+}
