@@ -10,3 +10,5 @@ pub mod Fields
 pub mod Reach
 pub mod Turns
 pub mod CodeSteps
+pub mod Acceptance
+pub mod Starred

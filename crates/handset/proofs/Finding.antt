@@ -1,0 +1,84 @@
+-- A place is found in an index at the first entry that has it, and not where no entry has it; texts past the image are empty.
+use Prim.Native.Nat.{ℕ, zero, suc, _+_, _-_, _≤_, _<_}
+use mathlib.Core.Path.{_≡_, refl, sym, _∙_}
+use mathlib.Core.Bool.{Bool, true, false, true≢false}
+use mathlib.Core.List.{List, [], _∷_, _++_}
+use native.Mathlib.Omega.{arith}
+use native.Mathlib.Decide.{ℕ-discrete}
+use lib.ListN.{length}
+use borrow.Author.Tests.{lt-leb, le-leb}
+use Rattle.laws.specs.Choice.{if_then_else_, _and_, _=?_, _<?_}
+use Rattle.laws.specs.Bytes.{byteAt, room}
+use Rattle.laws.proofs.Cases.{if-ind, if-false, if-eq, if-ne, if-true}
+use Rattle.laws.proofs.Rooms.{room-le}
+use Rattle.cmf.specs.Readers.{componentAt}
+use Rattle.walk.specs.Check.{State, checked, refusalOf}
+use Rattle.walk.specs.Index.{entryAt, listed}
+use Rattle.walk.specs.declared.index.Entry.{Entry}
+use Rattle.handset.specs.OptionText.{reached, itemsIn, itemPlace, textRefusal, textBytes, optionText}
+
+found-left : (p : ℕ) (es fs : List Entry) → reached p es ≡ true → reached p (es ++ fs) ≡ true
+unfolding reached if_then_else_
+found-left p [] fs h = absurd (true≢false (sym h))
+found-left p (e ∷ es) fs h = go (e .place =? p) h (found-left p es fs)
+  where
+    go : (t : Bool) → (if t then true else reached p es) ≡ true → (reached p es ≡ true → reached p (es ++ fs) ≡ true)
+        → (if t then true else reached p (es ++ fs)) ≡ true
+    go true g next = refl
+    go false g next = next g
+
+found-last : (p : ℕ) (es : List Entry) (e : Entry) → e .place ≡ p → reached p (es ++ (e ∷ [])) ≡ true
+unfolding reached
+found-last p [] e h = if-eq (e .place) p _ _ h
+found-last p (f ∷ es) e h = if-ind (λ (t : Bool). t ≡ true) (f .place =? p) (λ _. refl) (λ _. found-last p es e h)
+
+pub not-yet : (p : ℕ) (es : List Entry) (e : Entry) → reached p es ≡ false → (e .place ≡ p → ⊥) → reached p (es ++ (e ∷ [])) ≡ false
+unfolding reached if_then_else_
+not-yet p [] e h n = if-ne (e .place) p _ _ n
+not-yet p (f ∷ es) e h n = go (f .place =? p) h (λ g. not-yet p es e g n)
+  where
+    go : (t : Bool) → (if t then true else reached p es) ≡ false → (reached p es ≡ false → reached p (es ++ (e ∷ [])) ≡ false)
+        → (if t then true else reached p (es ++ (e ∷ []))) ≡ false
+    go true g next = absurd (true≢false g)
+    go false g next = next g
+
+-- an entry below k that stands at the place
+pub found : (p : ℕ) (xs : List ℕ) (i k : ℕ) → i < k → entryAt xs i .place ≡ p → reached p (listed xs k) ≡ true
+unfolding listed
+found p xs i zero h e = absurd (omega arith)
+found p xs i (suc k) h e = go (ℕ-discrete i k) (λ l. found p xs i k l e)
+  where
+    go : Dec (i ≡ k) → (i < k → reached p (listed xs k) ≡ true) → reached p (listed xs k ++ (entryAt xs k ∷ [])) ≡ true
+    go (yes q) below = found-last p (listed xs k) (entryAt xs k) (rw q at e)
+    go (no q) below = found-left p (listed xs k) (entryAt xs k ∷ []) (below (omega arith))
+
+-- one entry more that does not
+pub still-none : (p : ℕ) (xs : List ℕ) (i : ℕ) → reached p (listed xs i) ≡ false → (entryAt xs i .place ≡ p → ⊥) → reached p (listed xs (i + 1)) ≡ false
+unfolding listed
+still-none p xs i h n = let z : i + 1 ≡ suc i = omega arith in rw z (not-yet p (listed xs i) (entryAt xs i) h n)
+
+-- no text past the image
+pub text-out : (im : List ℕ) (at : ℕ) → length im ≤ at → textBytes im at ≡ []
+unfolding textBytes
+text-out im at h =
+    if-ind (λ (l : List ℕ). l ≡ []) (room (length im) at (1 + byteAt im at))
+    (λ e. absurd (omega (arith, room-le (length im) at (1 + byteAt im at) e))) (λ e. refl)
+
+-- the refusal by the state that the check came to
+pub refusal-is : (im : List ℕ) (sheet place item : ℕ) (s : State) → s ≡ checked im sheet
+    → textRefusal im sheet place item
+    ≡ (if s .walk .code =? 0 then
+    (if reached place (s .fields) and (item <? itemsIn (componentAt im place .field .kind)) then 0 else 14)
+    else s .walk .code)
+unfolding textRefusal refusalOf
+refusal-is im sheet place item s e = rw e
+
+-- what the call returns
+pub text-none : (im : List ℕ) (sheet place item : ℕ) → (textRefusal im sheet place item ≡ 0 → ⊥) → optionText im sheet place item ≡ []
+unfolding optionText
+text-none im sheet place item h = if-ne _ 0 _ _ h
+
+pub text-some : (im : List ℕ) (sheet place item : ℕ) → textRefusal im sheet place item ≡ 0
+    → optionText im sheet place item ≡ textBytes im (itemPlace im place item)
+unfolding optionText
+text-some im sheet place item h = if-eq _ 0 _ _ h

@@ -1,0 +1,2 @@
+// The public calls of the menu executor.
+pub mod option;

@@ -1,0 +1,113 @@
+// The call Option text: an item's own bytes, shown as that part of the lent image.
+ghost use mathlib.Core.Path.{_≡_};
+ghost use lib.ListN.{length};
+ghost use Rattle.walk.specs.Index.{listed};
+ghost use Rattle.handset.specs.OptionText.{reached, itemsIn, itemPlace, textBytes, textRefusal, optionText};
+use cmf::component::read_component;
+use cmf::text::item_place;
+use field::kind::ImagePlace;
+use field::kind::Kind;
+use laws::byte_at;
+use laws::room;
+use walk::check::check;
+use walk::index::entry_at;
+
+// The refusal number for a place that is no reached option field, or an item that it has not.
+pub const NO_ITEM: u8 = 14;
+
+// Whether one of the first k entries of an index stands at a place.
+fn is_reached(index: &[usize], k: usize, place: usize) -> bool
+    ensures { λ r. ⌜ r ≡ reached place (listed (now (index .entry)) k) ⌝ }
+{
+    let mut i = 0;
+    while i < k {
+        let e = entry_at(index, i);
+        if e.place == place {
+            return true;
+        }
+        i = i + 1;
+    }
+    false
+}
+
+fn items_in(kind: Kind) -> usize
+    ensures { λ r. ⌜ r ≡ itemsIn kind ⌝ }
+{
+    match kind {
+        Kind::Integer(_) => 0,
+        Kind::Counter(_) => 0,
+        Kind::Time(_) => 0,
+        Kind::Date(_) => 0,
+        Kind::Switch(_) => 0,
+        Kind::Option { items, longest: _ } => items as usize,
+        Kind::Trigger => 0,
+    }
+}
+
+// The bytes of the text at a place.
+fn text_bytes<'a>(image: &'a [u8], at: usize) -> &'a [u8]
+    ensures { λ r. ⌜ now r ≡ textBytes (now (image .entry)) at ⌝ }
+{
+    let n = byte_at(image, at) as usize;
+    let whole = room(image, at, 1 + n);
+    if whole {
+        let start = at + 1;
+        let end = start + n;
+        return &image[start..end];
+    }
+    &image[0..0]
+}
+
+// The text of an item of the option at a place.
+fn item_bytes<'a>(image: &'a [u8], place: usize, item: usize) -> &'a [u8]
+    ensures { λ r. ⌜ now r ≡ textBytes (now (image .entry)) (itemPlace (now (image .entry)) place item) ⌝ }
+{
+    if place < image.len() {
+        return text_bytes(image, item_place(image, item, place + 10));
+    }
+    &image[0..0]
+}
+
+// The refusal number, 0 for none.
+fn text_refusal(image: &[u8], sheet: usize, place: usize, item: usize) -> u8
+    ensures { λ r. ⌜ r ≡ textRefusal (now (image .entry)) sheet place item ⌝ }
+{
+    let c = check(image, sheet);
+    let code = c.walk.code;
+    let fields = c.walk.fields;
+    let index = c.index;
+    if code != 0 {
+        return code;
+    }
+    let found = is_reached(&index, fields, place);
+    if !found {
+        return NO_ITEM;
+    }
+    let component = read_component(image, place);
+    let field = component.field;
+    let kind = field.kind;
+    if item < items_in(kind) {
+        return 0;
+    }
+    NO_ITEM
+}
+
+// An item's text; the refusal number goes to `refusal`, and a refusal gives an empty part.
+pub fn option_text<'a, 'b, 'c>(
+    image: &'a [u8],
+    sheet: &'b [u8],
+    place: ImagePlace,
+    item: usize,
+    refusal: &'c mut u8,
+) -> &'a [u8]
+    ensures { λ r. ⌜ now r ≡ optionText (now (image .entry)) (length (now (sheet .entry))) (place .0) item ⌝ }
+    ensures { λ r. ⌜ now (refusal .exit) ≡ textRefusal (now (image .entry)) (length (now (sheet .entry))) (place .0) item ⌝ }
+{
+    let at = place.0;
+    let code = text_refusal(image, sheet.len(), at, item);
+    *refusal = code;
+    if code != 0 {
+        return &image[0..0];
+    }
+    item_bytes(image, at, item)
+}
