@@ -18,7 +18,7 @@ fieldsOf c = if c .holds then c .field ∷ [] else []
 
 -- what a component of the grammar reads as
 pub record ComponentIs (im : List ℕ) (at end : ℕ) (fs : List Field) : Type 0 where
-  pub code : componentAt im at .code ≡ 0
+  pub refusal : componentAt im at .refusal ≡ 0
   pub ends : componentAt im at .end ≡ end
   pub fields : fieldsOf (componentAt im at) ≡ fs
 
@@ -33,7 +33,7 @@ pub record ComponentReads (im : List ℕ) (at : ℕ) : Type 0 where
 
 -- what a head of the grammar reads as
 pub record HeadIs (im : List ℕ) (n before p end : ℕ) : Type 0 where
-  pub code : headAt im p .code ≡ 0
+  pub refusal : headAt im p .refusal ≡ 0
   pub good : headAt im p .good ≡ true
   pub ends : headAt im p .end ≡ end
   pub first : n ≡ 0 → headAt im p .first ≡ true
@@ -63,7 +63,7 @@ pub record TitleReads (im : List ℕ) (at : ℕ) : Type 0 where
 
 -- what a text of the grammar reads as, where a title is expected
 pub record TitleIs (im : List ℕ) (at end : ℕ) : Type 0 where
-  pub code : titleAt im at .code ≡ 0
+  pub refusal : titleAt im at .refusal ≡ 0
   pub ends : titleAt im at .end ≡ end
 
 -- a place that is aligned behind another
@@ -74,11 +74,11 @@ pub record PlaceIs (im : List ℕ) (at place from : ℕ) : Type 0 where
 -- the readers and the grammar agree
 pub record Agree (im : List ℕ) : Type 0 where
   pub component-is : {at end : ℕ} {fs : List Field} → Component im at end fs → ComponentIs im at end fs
-  pub component-reads : (at : ℕ) → componentAt im at .code ≡ 0 → ComponentReads im at
+  pub component-reads : (at : ℕ) → componentAt im at .refusal ≡ 0 → ComponentReads im at
   pub head-is : {n before p end : ℕ} → Head im n before p end → HeadIs im n before p end
-  pub head-reads : (p : ℕ) → headAt im p .code ≡ 0 → HeadReads im p
+  pub head-reads : (p : ℕ) → headAt im p .refusal ≡ 0 → HeadReads im p
   pub title-is : {at end : ℕ} → Text im at end → TitleIs im at end
-  pub title-reads : (at : ℕ) → titleAt im at .code ≡ 0 → TitleReads im at
+  pub title-reads : (at : ℕ) → titleAt im at .refusal ≡ 0 → TitleReads im at
   pub odd-is : {at place : ℕ} → Aligned im 1 at place → PlaceIs im at place (oddFrom at)
   pub even-is : {at place : ℕ} → Aligned im 0 at place → PlaceIs im at place (evenFrom at)
   pub odd-aligned : (at place : ℕ) → PlaceIs im at place (oddFrom at) → place < length im → Aligned im 1 at place

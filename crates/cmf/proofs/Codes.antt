@@ -229,10 +229,10 @@ module _ (im : List ℕ) where
   component-is c =
       let r = row c in
       let e = laid-read im (r .laid) in
-      record { code = rw e (if-true _ _ (r .laid .settings)); ends = rw e; fields = rw e (r .fields) }
+      record { refusal = rw e (if-true _ _ (r .laid .settings)); ends = rw e; fields = rw e (r .fields) }
 
   -- what is known of a component that reads with code 0
-  pub component-reads : (at : ℕ) → componentAt im at .code ≡ 0 → ComponentReads im at
+  pub component-reads : (at : ℕ) → componentAt im at .refusal ≡ 0 → ComponentReads im at
   component-reads at c =
       let f = read-laid im at c in
       let a = f .laid in

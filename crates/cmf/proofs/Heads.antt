@@ -107,7 +107,7 @@ module _ (im : List ℕ) where
   -- a head that is read is laid out so: its options, and then the whole
   options-laid :
       (p : ℕ) → p < length im → byteAt im p < 32 →
-      headBy im p (byteAt im p) (textsFrom im (passwords (byteAt im p)) (optionsEnd p (byteAt im p)) 0) .code ≡ 0 → Found p
+      headBy im p (byteAt im p) (textsFrom im (passwords (byteAt im p)) (optionsEnd p (byteAt im p)) 0) .refusal ≡ 0 → Found p
   unfolding headBy
   options-laid p i b =
       if-ind Sound (optionsEnd p (byteAt im p) ≤? length im)
@@ -130,9 +130,9 @@ module _ (im : List ℕ) where
       (λ o c. absurd (omega arith))
     where
       Sound : read.Head → Type 0
-      Sound h = h .code ≡ 0 → Found p
+      Sound h = h .refusal ≡ 0 → Found p
 
-  read-laid : (p : ℕ) → headAt im p .code ≡ 0 → Found p
+  read-laid : (p : ℕ) → headAt im p .refusal ≡ 0 → Found p
   unfolding headAt
   read-laid p =
       if-ind Sound (p <? length im)
@@ -140,7 +140,7 @@ module _ (im : List ℕ) where
       (λ i c. absurd (omega arith))
     where
       Sound : read.Head → Type 0
-      Sound h = h .code ≡ 0 → Found p
+      Sound h = h .refusal ≡ 0 → Found p
 
   -- the password of a head laid out so, if it is a good one
   laid-password : {p end : ℕ} → Laid p end → headRead im p (byteAt im p) end .good ≡ true → Password im p end
@@ -153,7 +153,7 @@ module _ (im : List ℕ) where
       Password.none no (none-ends (rw no at (h .word .texts))))
 
   -- what is known of a head that reads with code 0
-  pub head-reads : (p : ℕ) → headAt im p .code ≡ 0 → HeadReads im p
+  pub head-reads : (p : ℕ) → headAt im p .refusal ≡ 0 → HeadReads im p
   head-reads p c =
       let f = read-laid p c in
       let h = f .laid in
@@ -203,7 +203,7 @@ module _ (im : List ℕ) where
   head-is h =
       let e = laid-read (head-laid h) in
       record {
-        code = rw e;
+        refusal = rw e;
         good = rw e (good (h .protects) (h .password));
         ends = rw e;
         first = λ z. rw e (eq-eqb _ 1 (h .first z));

@@ -58,7 +58,7 @@ module _ (im : List ℕ) where
   -- a component that is read is laid out so: first by a code, then by its own
   out-laid :
       (at c : ℕ) → c < 0x18 →
-      laidOut im at c (byteAt im at) (textsFrom im (textCount im at c) (at + fixedBytes c (editBit im at)) 0) .code ≡ 0 → Found at c
+      laidOut im at c (byteAt im at) (textsFrom im (textCount im at c) (at + fixedBytes c (editBit im at)) 0) .refusal ≡ 0 → Found at c
   unfolding laidOut
   out-laid at c k =
       if-ind Sound (room (length im) at (fixedBytes c (editBit im at)))
@@ -81,9 +81,9 @@ module _ (im : List ℕ) where
       (λ r s. absurd (omega arith))
     where
       Sound : read.Component → Type 0
-      Sound x = x .code ≡ 0 → Found at c
+      Sound x = x .refusal ≡ 0 → Found at c
 
-  pub read-laid : (at : ℕ) → componentAt im at .code ≡ 0 → Found at (code im at)
+  pub read-laid : (at : ℕ) → componentAt im at .refusal ≡ 0 → Found at (code im at)
   unfolding componentAt componentBy
   read-laid at =
       if-ind Sound (at <? length im)
@@ -91,4 +91,4 @@ module _ (im : List ℕ) where
       (λ i s. absurd (omega arith))
     where
       Sound : read.Component → Type 0
-      Sound x = x .code ≡ 0 → Found at (code im at)
+      Sound x = x .refusal ≡ 0 → Found at (code im at)

@@ -14,21 +14,21 @@ use Rattle.cmf.proofs.Runs.{text-texts, texts-text, texts-run, texts-re
 
 module _ {im : List ℕ} where
   -- a text is read as a title, and so leads to the first line
-  read : {at end : ℕ} → Text im at end → titleAt im at ≡ record { code = 0; end = end; line = oddFrom end }
+  read : {at end : ℕ} → Text im at end → titleAt im at ≡ record { refusal = 0; end = end; line = oddFrom end }
   unfolding titleAt titleBy
   read t = rw (texts-run im (text-texts t)) (if-true _ _ refl)
 
   -- what a text reads as
   pub title-is : {at end : ℕ} → Text im at end → TitleIs im at end
-  title-is t = record { code = rw (read t); ends = rw (read t) }
+  title-is t = record { refusal = rw (read t); ends = rw (read t) }
 
 -- a title that is read has its text in the image
-fits : (at : ℕ) (t : Run) → titleBy at t .code ≡ 0 → t .fits ≡ true
+fits : (at : ℕ) (t : Run) → titleBy at t .refusal ≡ 0 → t .fits ≡ true
 unfolding titleBy
-fits at t = if-ind (λ (x : Title). x .code ≡ 0 → t .fits ≡ true) (t .fits) (λ f c. f) (λ f c. absurd (omega arith))
+fits at t = if-ind (λ (x : Title). x .refusal ≡ 0 → t .fits ≡ true) (t .fits) (λ f c. f) (λ f c. absurd (omega arith))
 
 -- what is known of a title that reads with code 0
-pub title-reads : (im : List ℕ) (at : ℕ) → titleAt im at .code ≡ 0 → TitleReads im at
+pub title-reads : (im : List ℕ) (at : ℕ) → titleAt im at .refusal ≡ 0 → TitleReads im at
 unfolding titleAt
 title-reads im at c =
     let t = texts-text (texts-reads im 1 at 0 (fits at _ c) .texts) in

@@ -1,5 +1,6 @@
 -- Which images are well formed: section 7's figures 2 and 3 and 01's limits, as relations between places of the image.
--- Written from the papers, apart from the check: nothing here has a state, an order of checks or a refusal.
+-- Written from the papers, apart from the check: nothing here has a state, an order of checks or a refusal. What row 9 asks of a field's
+-- settings is crate field's `settingsFit`, for grammar and check alike.
 use Prim.Native.Nat.{ℕ, zero, suc, _+_, _-_, _*_, _^_, _≤_, _<_}
 use mathlib.Core.Path.{_≡_}
 use mathlib.Core.List.{List, [], _∷_, _++_}
@@ -84,7 +85,7 @@ pub data Password (im : List ℕ) (p end : ℕ) : Type 0 where
 
 -- 7.2, 7.4, ldtag:1 line-opts: the head, with its tag at p, of a line that has n lines before it in its table, the nearest of them at `before`
 pub record Head (im : List ℕ) (n before p end : ℕ) : Type 0 where
-  -- figure 3: tag, options of two bytes and password are in the image
+  -- figure 3: the tag and the options of two bytes are in the image
   pub inside : passwordAt im p ≤ length im
   pub password : Password im p end
   -- R9: bits 5 to 7 have no meaning, nor has the password bit without a submenu
@@ -98,7 +99,7 @@ pub record Head (im : List ℕ) (n before p end : ℕ) : Type 0 where
 
 -- ---- 7.2: lines and tables
 
--- 7.2, 7.4: a line is head and components, and then the submenu's table, if any, by `Submenu`; it has the fields and the lines of both
+-- 7.2, 7.4: a line is head and components and, if it has a submenu, the table that `Submenu` describes, wherever it stands; it has the fields and the lines of both
 pub data Line (im : List ℕ) (Submenu : ℕ → List Field → ℕ → Type 0) (n before p end : ℕ) : (fs : List Field) (k : ℕ) → Type 0 where
   plain :
       {fs : List Field} (mid : ℕ) →
@@ -130,7 +131,7 @@ pub record TableOver (im : List ℕ) (Submenu : ℕ → List Field → ℕ → T
   pub aligned : Aligned im 1 titleEnd firstLine
   pub lines : Lines im Submenu 0 0 firstLine fs k
 
--- 01, row 8: the table at a place that is at most so deep, itself counted, with its fields and its number of lines, those of its submenus among them
+-- 01, row 8: the table at a place, with at most so many tables one below the other, itself counted; its fields and its number of lines, those of its submenus among them
 unfoldable pub Table : List ℕ → ℕ → ℕ → List Field → ℕ → Type 0
 Table im zero at fs k = ⊥
 Table im (suc deep) at fs k = TableOver im (Table im deep) at fs k

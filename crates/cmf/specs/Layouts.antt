@@ -55,7 +55,7 @@ editBit im at = bit 5 (byteAt im at)
 abbrev pub lastBit : List ℕ → ℕ → ℕ
 lastBit im at = bit 7 (byteAt im at)
 
--- 7.5: behind tag:1, update:1 and call-addr:2 stands var-addr:2, the field's place in the sheet; its default, at d, has as many bytes as it has there
+-- 7.5: behind tag:1, update:1 and call-addr:2 stands var-addr:2, the field's place in the sheet; its default stands at d and has as many bytes as its value in the sheet
 abbrev pub fieldAt : List ℕ → ℕ → Kind → ℕ → Field
 fieldAt im at k d = record {
   image = record { 0 = at };
@@ -68,7 +68,7 @@ fieldAt im at k d = record {
 abbrev pub integerAt : List ℕ → ℕ → Field
 integerAt im at = fieldAt im at (Integer (formatOf (code im at))) (at + 6)
 
--- 7.5.14, R2: min, max and step are signed
+-- 7.5.14, R2: min, max and step are signed; min and max are kept with 32,768 added
 abbrev pub counterSettingsAt : List ℕ → ℕ → CounterSettings
 counterSettingsAt im at = record {
   min = biased (wordAt im (at + 6));
@@ -113,7 +113,7 @@ pub record FixedLayout (im : List ℕ) (at n end : ℕ) : Type 0 where
   pub ends : end ≡ at + n
   pub inside : end ≤ length im
 
--- 7.5.20, R16, R17: nswitch texts behind the default; length counts the component's bytes, its texts among them
+-- 7.5.20, R16, R17: nswitch texts behind the default, the longest of any length; length counts the component's bytes, its texts among them
 pub record SwitchLayout (im : List ℕ) (at end : ℕ) : Type 0 where
   pub inside : at + 14 ≤ length im
   pub longest : ℕ

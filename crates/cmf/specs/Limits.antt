@@ -1,4 +1,4 @@
--- The numbers that 01 and section 7 fix, a name for each.
+-- The limits, a name for each.
 use Prim.Native.Nat.{ℕ}
 
 -- 01, Refusal numbers: the limits

@@ -24,7 +24,7 @@ componentsFrom im (suc k) c = c ∷ (if componentAt im c .last then [] else comp
 unfoldable pub componentsOf : List ℕ → ℕ → List ℕ
 componentsOf im p = componentsFrom im (length im + 1) (headAt im p .component)
 
--- the line k lines further on, and line k of a table, from 0
+-- the line k lines further on, and line k of a table, from 0; without meaning past the table's last line
 unfoldable pub lineFrom : List ℕ → ℕ → ℕ → ℕ
 lineFrom im zero p = p
 lineFrom im (suc k) p = lineFrom im k (headAt im p .next)

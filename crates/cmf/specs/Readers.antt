@@ -1,5 +1,6 @@
 -- What a reader finds at a place, whatever the bytes: section 7's layouts in the order in which they are read.
--- A code of 6 says that not all of the thing is in the image, 7 that there is no such thing, 9 that its settings are bad.
+-- A refusal of 6 says that not all of the thing is in the image, 7 that section 7 does not give it or 01 leaves it for later, 9 (of a component)
+-- that its settings are bad. A head with a bad password is no refusal yet, since 8 comes between: it is not `good`.
 -- What is refused with 6 or 7 reads as the last of its list and leads nowhere.
 use Prim.Native.Nat.{ℕ, zero, suc, _+_, _-_, _*_, _/_, _%_, max}
 use mathlib.Core.Bool.{Bool, true, false}
@@ -34,9 +35,9 @@ oddFrom x = x + (1 - x % 2)
 abbrev pub evenFrom : ℕ → ℕ
 evenFrom x = x + x % 2
 
--- bit k of a tag, by its weight
+-- the bit of a tag that has this weight
 abbrev pub tagBit : ℕ → ℕ → ℕ
-tagBit k tag = tag / k % 2
+tagBit weight tag = tag / weight % 2
 
 -- ---- texts
 
@@ -69,11 +70,11 @@ itemFrom im (suc k) at = if at <? length im then itemFrom im k (at + 1 + byteAt 
 -- ---- 7.2: a table's title
 
 abbrev pub titleRefused : ℕ → Title
-titleRefused at = record { code = 6; end = at; line = at }
+titleRefused at = record { refusal = 6; end = at; line = at }
 
 -- where it ends, and where the first line stands
 unfoldable pub titleBy : ℕ → Run → Title
-titleBy at t = if t .fits then record { code = 0; end = t .end; line = oddFrom (t .end) } else titleRefused at
+titleBy at t = if t .fits then record { refusal = 0; end = t .end; line = oddFrom (t .end) } else titleRefused at
 
 unfoldable pub titleAt : List ℕ → ℕ → Title
 titleAt im at = titleBy at (textsFrom im 1 at 0)
@@ -82,7 +83,7 @@ titleAt im at = titleBy at (textsFrom im 1 at 0)
 
 abbrev pub headRefused : ℕ → ℕ → Head
 headRefused p k = record {
-  code = k;
+  refusal = k;
   good = true;
   first = false;
   last = true;
@@ -106,14 +107,14 @@ submenuPlace p tag = backPlace p tag + 2 * (1 - tagBit 1 tag) + 2 * tagBit 4 tag
 abbrev pub optionsEnd : ℕ → ℕ → ℕ
 optionsEnd p tag = submenuPlace p tag + 2 * tagBit 8 tag
 
--- and a password (16) where there is a submenu
+-- how many passwords (16), one or none: one only where there is a submenu
 abbrev pub passwords : ℕ → ℕ
 passwords tag = tagBit 8 tag * tagBit 16 tag
 
--- all options are in the image; the head ends at `end`
+-- all options are in the image; the head ends at `end`. What an absent option would say has no meaning
 abbrev pub headRead : List ℕ → ℕ → ℕ → ℕ → Head
 headRead im p tag end = record {
-  code = 0;
+  refusal = 0;
   good = if passwords tag =? 1 then passwordFits im (optionsEnd p tag) else true;
   first = tagBit 1 tag =? 1;
   last = tagBit 2 tag =? 1;
@@ -189,7 +190,7 @@ counterOf im at = record {
   width = byteAt im (at + 14);
 }
 
--- the kind that a code gives; a constant string is no field and counts as a trigger here
+-- the kind that a code gives; what is no field of ours counts as a trigger here
 unfoldable pub kindAt : List ℕ → ℕ → ℕ → Kind
 kindAt im at code =
     if code ≤? 0x0a then Integer (formatOf code)
@@ -224,7 +225,7 @@ fieldBy im at code = record {
 
 abbrev pub componentRefused : List ℕ → ℕ → ℕ → Component
 componentRefused im at k = record {
-  code = k;
+  refusal = k;
   last = true;
   editable = false;
   holds = false;
@@ -236,7 +237,7 @@ componentRefused im at k = record {
 -- the component that ends at `end`; 01, Fields: a trigger is editable whatever its edit bit
 abbrev pub componentRead : List ℕ → ℕ → ℕ → ℕ → ℕ → Component
 componentRead im at code tag end = record {
-  code = if settingsFit (kindAt im at code) (fieldBy im at code .default) then 0 else 9;
+  refusal = if settingsFit (kindAt im at code) (fieldBy im at code .default) then 0 else 9;
   last = tagBit 128 tag =? 1;
   editable = if code =? 0x17 then true else tagBit 32 tag =? 1;
   holds = if code =? 0x15 then false else true;

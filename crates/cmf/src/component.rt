@@ -24,9 +24,9 @@ use laws::byte_at;
 use laws::room;
 use laws::word_at;
 
-// code: 0, or 6, 7 or 9. holds: it is a field, and no constant string. next: the place of the next component.
+// refusal: 0, or 6, 7 or 9. holds: it is a field, and no constant string. next: the place of the next component.
 pub struct Component {
-    pub code: u8,
+    pub refusal: u8,
     pub last: bool,
     pub editable: bool,
     pub holds: bool,
@@ -193,7 +193,7 @@ fn field_by(image: &[u8], at: usize, code: u8) -> Field
     let default = value_at(image, default_place(at, code), profile_of(kind).bytes);
     Field {
         image: ImagePlace(at),
-        sheet: SheetPlace(sheet_place(image, at, code)),
+        sheet: SheetPlace(sheet_place(image, at, code) as usize),
         kind,
         default,
     }
@@ -214,7 +214,7 @@ impl Component {
             },
         };
         Component {
-            code,
+            refusal: code,
             last: true,
             editable: false,
             holds: false,
@@ -260,7 +260,7 @@ fn component_read(image: &[u8], at: usize, code: u8, tag: u8, end: usize) -> Com
     let kind = field.kind;
     let default = field.default;
     Component {
-        code: nine_unless(settings_fit(kind, default)),
+        refusal: nine_unless(settings_fit(kind, default)),
         last: tag / 128 % 2 == 1,
         editable: is_editable(code, tag),
         holds: is_field(code),

@@ -11,10 +11,11 @@ use crate::text::read_texts;
 use laws::byte_at;
 use laws::word_at;
 
-// code: 0, or 6 or 7. good: its password, if it has one, is one. first, last: of its table. back: the distance from the line before.
-// next, table, password, component: the places of the next line, of the submenu's table, of the password, of the first component.
+// refusal: 0, or 6 or 7. good: its password, if it has one, is one. first, last: of its table. back: the distance from the line before.
+// next, table, password, component: the places of the next line, of the submenu's table, of the password, of the first component;
+// without meaning if it has none.
 pub struct Head {
-    pub code: u8,
+    pub refusal: u8,
     pub good: bool,
     pub first: bool,
     pub last: bool,
@@ -34,7 +35,7 @@ impl Head {
         ensures { λ r. ⌜ r ≡ headRefused p code ⌝ }
     {
         Head {
-            code,
+            refusal: code,
             good: true,
             first: false,
             last: true,
@@ -74,7 +75,7 @@ fn head_read(image: &[u8], p: usize, tag: u8, end: usize) -> Head
     let b = word_at(image, back) as usize;
     let d = word_at(image, submenu) as usize;
     Head {
-        code: 0,
+        refusal: 0,
         good,
         first: t % 2 == 1,
         last: t / 2 % 2 == 1,

@@ -3,9 +3,9 @@ ghost use mathlib.Core.Path.{_≡_};
 ghost use Rattle.cmf.specs.Readers.{titleAt};
 use crate::text::read_texts;
 
-// Where the title ends, and where the table's first line stands; code 6: not all of it is in the image.
+// Where the title ends, and where the table's first line stands; refusal 6: not all of it is in the image.
 pub struct Title {
-    pub code: u8,
+    pub refusal: u8,
     pub end: usize,
     pub line: usize,
 }
@@ -17,13 +17,13 @@ pub fn read_title(image: &[u8], at: usize) -> Title
     if t.fits {
         let end = t.end;
         return Title {
-            code: 0,
+            refusal: 0,
             end,
             line: end + (1 - end % 2),
         };
     }
     Title {
-        code: 6,
+        refusal: 6,
         end: at,
         line: at,
     }

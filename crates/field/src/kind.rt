@@ -6,7 +6,7 @@ ghost use Rattle.field.specs.Formats.{formatOf};
 pub struct ImagePlace(pub usize);
 
 // A place in the sheet, counted from 0. The sheet is the paper's term for the bytes that hold a candidate's answers.
-pub struct SheetPlace(pub u16);
+pub struct SheetPlace(pub usize);
 
 // An integer's cells: two bytes or one, with a sign or without, to the base 16 or 10, and how many digits.
 pub struct Format {
@@ -42,9 +42,6 @@ impl Kind {
 }
 
 impl Format {
-    // How many codes of section 7 are integers: 0 to 10.
-    pub const CODES: u8 = 11;
-
     // The format of an integer's code.
     pub fn of_code(code: u8) -> Self
         ensures { λ r. ⌜ r ≡ formatOf code ⌝ }

@@ -88,7 +88,7 @@ pub fn value_at(bytes: &[u8], at: usize, count: u8) -> Value
 pub fn load(sheet: &[u8], place: SheetPlace, count: u8) -> Value
     ensures { λ r. ⌜ r ≡ valueAt (place .0) count (now (sheet .entry)) ⌝ }
 {
-    value_at(sheet, place.0 as usize, count)
+    value_at(sheet, place.0, count)
 }
 
 // Writes a value at the start of a part of the sheet; where it does not fit nothing changes.
@@ -109,7 +109,7 @@ pub fn store(part: &mut [u8], value: Value)
 pub fn put(sheet: &mut [u8], place: SheetPlace, value: Value)
     ensures { λ _. ⌜ now (sheet .exit) ≡ putAt (place .0) (bytesOf value) (now (sheet .entry)) ⌝ }
 {
-    let at = place.0 as usize;
+    let at = place.0;
     if at <= sheet.len() {
         store(&mut sheet[at..], value);
     }

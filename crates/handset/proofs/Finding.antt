@@ -20,22 +20,22 @@ use Rattle.handset.specs.OptionText.{reached, itemsIn, itemPlace, textRe
 found-left : (p : ℕ) (es fs : List Entry) → reached p es ≡ true → reached p (es ++ fs) ≡ true
 unfolding reached if_then_else_
 found-left p [] fs h = absurd (true≢false (sym h))
-found-left p (e ∷ es) fs h = go (e .place =? p) h (found-left p es fs)
+found-left p (e ∷ es) fs h = go (e .place .0 =? p) h (found-left p es fs)
   where
     go : (t : Bool) → (if t then true else reached p es) ≡ true → (reached p es ≡ true → reached p (es ++ fs) ≡ true)
         → (if t then true else reached p (es ++ fs)) ≡ true
     go true g next = refl
     go false g next = next g
 
-found-last : (p : ℕ) (es : List Entry) (e : Entry) → e .place ≡ p → reached p (es ++ (e ∷ [])) ≡ true
+found-last : (p : ℕ) (es : List Entry) (e : Entry) → e .place .0 ≡ p → reached p (es ++ (e ∷ [])) ≡ true
 unfolding reached
-found-last p [] e h = if-eq (e .place) p _ _ h
-found-last p (f ∷ es) e h = if-ind (λ (t : Bool). t ≡ true) (f .place =? p) (λ _. refl) (λ _. found-last p es e h)
+found-last p [] e h = if-eq (e .place .0) p _ _ h
+found-last p (f ∷ es) e h = if-ind (λ (t : Bool). t ≡ true) (f .place .0 =? p) (λ _. refl) (λ _. found-last p es e h)
 
-pub not-yet : (p : ℕ) (es : List Entry) (e : Entry) → reached p es ≡ false → (e .place ≡ p → ⊥) → reached p (es ++ (e ∷ [])) ≡ false
+pub not-yet : (p : ℕ) (es : List Entry) (e : Entry) → reached p es ≡ false → (e .place .0 ≡ p → ⊥) → reached p (es ++ (e ∷ [])) ≡ false
 unfolding reached if_then_else_
-not-yet p [] e h n = if-ne (e .place) p _ _ n
-not-yet p (f ∷ es) e h n = go (f .place =? p) h (λ g. not-yet p es e g n)
+not-yet p [] e h n = if-ne (e .place .0) p _ _ n
+not-yet p (f ∷ es) e h n = go (f .place .0 =? p) h (λ g. not-yet p es e g n)
   where
     go : (t : Bool) → (if t then true else reached p es) ≡ false → (reached p es ≡ false → reached p (es ++ (e ∷ [])) ≡ false)
         → (if t then true else reached p (es ++ (e ∷ []))) ≡ false
@@ -43,7 +43,7 @@ not-yet p (f ∷ es) e h n = go (f .place =? p) h (λ g. not-yet p es e g n)
     go false g next = next g
 
 -- an entry below k that stands at the place
-pub found : (p : ℕ) (xs : List ℕ) (i k : ℕ) → i < k → entryAt xs i .place ≡ p → reached p (listed xs k) ≡ true
+pub found : (p : ℕ) (xs : List ℕ) (i k : ℕ) → i < k → entryAt xs i .place .0 ≡ p → reached p (listed xs k) ≡ true
 unfolding listed
 found p xs i zero h e = absurd (omega arith)
 found p xs i (suc k) h e = go (ℕ-discrete i k) (λ l. found p xs i k l e)
@@ -53,7 +53,7 @@ found p xs i (suc k) h e = go (ℕ-discrete i k) (λ l. found p xs i k l e)
     go (no q) below = found-left p (listed xs k) (entryAt xs k ∷ []) (below (omega arith))
 
 -- one entry more that does not
-pub still-none : (p : ℕ) (xs : List ℕ) (i : ℕ) → reached p (listed xs i) ≡ false → (entryAt xs i .place ≡ p → ⊥) → reached p (listed xs (i + 1)) ≡ false
+pub still-none : (p : ℕ) (xs : List ℕ) (i : ℕ) → reached p (listed xs i) ≡ false → (entryAt xs i .place .0 ≡ p → ⊥) → reached p (listed xs (i + 1)) ≡ false
 unfolding listed
 still-none p xs i h n = let z : i + 1 ≡ suc i = omega arith in rw z (not-yet p (listed xs i) (entryAt xs i) h n)
 
@@ -67,9 +67,9 @@ text-out im at h =
 -- the refusal by the state that the check came to
 pub refusal-is : (im : List ℕ) (sheet place item : ℕ) (s : State) → s ≡ checked im sheet
     → textRefusal im sheet place item
-    ≡ (if s .walk .code =? 0 then
+    ≡ (if s .walk .refusal =? 0 then
     (if reached place (s .fields) and (item <? itemsIn (componentAt im place .field .kind)) then 0 else 14)
-    else s .walk .code)
+    else s .walk .refusal)
 unfolding textRefusal refusalOf
 refusal-is im sheet place item s e = rw e
 

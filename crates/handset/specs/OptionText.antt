@@ -15,7 +15,7 @@ use Rattle.walk.specs.declared.index.Entry.{Entry}
 -- a field was reached at a place
 unfoldable pub reached : ℕ → List Entry → Bool
 reached place [] = false
-reached place (e ∷ es) = if e .place =? place then true else reached place es
+reached place (e ∷ es) = if e .place .0 =? place then true else reached place es
 
 -- how many items a field has: only an option has any
 unfoldable pub itemsIn : Kind → ℕ

@@ -22,7 +22,7 @@ fn is_reached(index: &[usize], k: usize, place: usize) -> bool
     let mut i = 0;
     while i < k {
         let e = entry_at(index, i);
-        if e.place == place {
+        if e.place.0 == place {
             return true;
         }
         i = i + 1;
@@ -73,7 +73,7 @@ fn text_refusal(image: &[u8], sheet: usize, place: usize, item: usize) -> u8
     ensures { λ r. ⌜ r ≡ textRefusal (now (image .entry)) sheet place item ⌝ }
 {
     let c = check(image, sheet);
-    let code = c.walk.code;
+    let code = c.walk.refusal;
     let fields = c.walk.fields;
     let index = c.index;
     if code != 0 {

@@ -65,9 +65,9 @@ module _ (im : List ℕ) (sheet : ℕ) (A : Agree im) where
 
   pub well-formed-is-accepted : WellFormed im sheet → refusalOf im sheet ≡ 0
   unfolding refusalOf
-  well-formed-is-accepted w = ap (λ (s : State). s .walk .code) (walked-is w .is)
+  well-formed-is-accepted w = ap (λ (s : State). s .walk .refusal) (walked-is w .is)
 
-  accepted-walk : walked im sheet .walk .code ≡ 0 → Prolog im → WellFormed im sheet
+  accepted-walk : walked im sheet .walk .refusal ≡ 0 → Prolog im → WellFormed im sheet
   unfolding walked fine
   accepted-walk z p =
       let r = table-read im A sheet mostFields deepestTable prologBytes 0 0 [] (eq-eqb _ 0 z) in
@@ -86,7 +86,7 @@ module _ (im : List ℕ) (sheet : ℕ) (A : Agree im) where
   pub accepted-is-well-formed : refusalOf im sheet ≡ 0 → WellFormed im sheet
   unfolding refusalOf checked
   accepted-is-well-formed =
-      if-ind (λ (s : State). s .walk .code ≡ 0 → WellFormed im sheet) (prologCode im =? 0)
+      if-ind (λ (s : State). s .walk .refusal ≡ 0 → WellFormed im sheet) (prologCode im =? 0)
       (λ e z. accepted-walk z (prolog-read im (eqb-true _ 0 e)))
       (λ e z. absurd (eqb-false (prologCode im) 0 e z))
 

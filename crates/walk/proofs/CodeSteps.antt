@@ -47,7 +47,7 @@ length-with xs k e = if-ind (λ (l : List ℕ). length l ≡ length xs) (k <? ca
 -- the entry that was set, and those before it
 module _ (xs : List ℕ) (k : ℕ) (e : Entry) (h : k < capacity xs) where
   abbrev new : List ℕ
-  new = set (set (set xs (3 * k) (e .place)) (3 * k + 1) (e .from)) (3 * k + 2) (e .size)
+  new = set (set (set xs (3 * k) (e .place .0)) (3 * k + 1) (e .from .0)) (3 * k + 2) (e .size)
 
   is-new : withEntry xs k e ≡ new
   unfolding withEntry
@@ -62,20 +62,20 @@ module _ (xs : List ℕ) (k : ℕ) (e : Entry) (h : k < capacity xs) where
       let a : k < capacity new = rw same-capacity h in
       if-lt k (capacity new) _ _ a
       ∙ rw (
-        getD-set-other (set (set xs (3 * k) (e .place)) (3 * k + 1) (e .from)) (3 * k + 2) (3 * k) (e .size) 0 (λ q. omega arith),
-        getD-set-other (set xs (3 * k) (e .place)) (3 * k + 1) (3 * k) (e .from) 0 (λ q. omega arith),
-        getD-set-same xs (3 * k) (e .place) 0 (omega arith),
-        getD-set-other (set (set xs (3 * k) (e .place)) (3 * k + 1) (e .from)) (3 * k + 2) (3 * k + 1) (e .size) 0 (λ q. omega arith),
-        getD-set-same (set xs (3 * k) (e .place)) (3 * k + 1) (e .from) 0 (simp length-set (omega arith)),
-        getD-set-same (set (set xs (3 * k) (e .place)) (3 * k + 1) (e .from)) (3 * k + 2) (e .size) 0 (simp length-set (omega arith)),
+        getD-set-other (set (set xs (3 * k) (e .place .0)) (3 * k + 1) (e .from .0)) (3 * k + 2) (3 * k) (e .size) 0 (λ q. omega arith),
+        getD-set-other (set xs (3 * k) (e .place .0)) (3 * k + 1) (3 * k) (e .from .0) 0 (λ q. omega arith),
+        getD-set-same xs (3 * k) (e .place .0) 0 (omega arith),
+        getD-set-other (set (set xs (3 * k) (e .place .0)) (3 * k + 1) (e .from .0)) (3 * k + 2) (3 * k + 1) (e .size) 0 (λ q. omega arith),
+        getD-set-same (set xs (3 * k) (e .place .0)) (3 * k + 1) (e .from .0) 0 (simp length-set (omega arith)),
+        getD-set-same (set (set xs (3 * k) (e .place .0)) (3 * k + 1) (e .from .0)) (3 * k + 2) (e .size) 0 (simp length-set (omega arith)),
       )
 
   far : (i j : ℕ) → i < k → j < 3 → getD new (3 * i + j) 0 ≡ getD xs (3 * i + j) 0
   far i j a b =
       rw (
-        getD-set-other (set (set xs (3 * k) (e .place)) (3 * k + 1) (e .from)) (3 * k + 2) (3 * i + j) (e .size) 0 (λ q. omega arith),
-        getD-set-other (set xs (3 * k) (e .place)) (3 * k + 1) (3 * i + j) (e .from) 0 (λ q. omega arith),
-        getD-set-other xs (3 * k) (3 * i + j) (e .place) 0 (λ q. omega arith),
+        getD-set-other (set (set xs (3 * k) (e .place .0)) (3 * k + 1) (e .from .0)) (3 * k + 2) (3 * i + j) (e .size) 0 (λ q. omega arith),
+        getD-set-other (set xs (3 * k) (e .place .0)) (3 * k + 1) (3 * i + j) (e .from .0) 0 (λ q. omega arith),
+        getD-set-other xs (3 * k) (3 * i + j) (e .place .0) 0 (λ q. omega arith),
       )
 
   entry-old : (i : ℕ) → i < k → entryAt new i ≡ entryAt xs i
@@ -138,11 +138,11 @@ module _ (e : Entry) (xs : List ℕ) (i : ℕ) where
 -- ---- the walk's state
 
 module _ (x y : State) where
-  pub then-no : (x .walk .code ≡ 0 → ⊥) → andThen x y ≡ x
+  pub then-no : (x .walk .refusal ≡ 0 → ⊥) → andThen x y ≡ x
   unfolding andThen fine
   then-no h = if-ne _ 0 _ _ h
 
-  pub then-yes : x .walk .code ≡ 0 → andThen x y ≡ y
+  pub then-yes : x .walk .refusal ≡ 0 → andThen x y ≡ y
   unfolding andThen fine
   then-yes h = if-eq _ 0 _ _ h
 
@@ -183,14 +183,14 @@ module _ (im : List ℕ) (sheet : ℕ) where
         let g : t ≡ takeComponent im sheet most p c s = f ∙ ap (λ (j : ℕ). takeComponent im sheet j p c s) z in
         ap (λ (n : ℕ). onComponents im sheet most (componentsFrom im n p) s) (sym (pos-suc left h)) ∙ simp (← e, ← g)
 
-    pub components-stop : (t .walk .code ≡ 0 → ⊥) → onComponents im sheet most (componentsFrom im left p) s ≡ t
+    pub components-stop : (t .walk .refusal ≡ 0 → ⊥) → onComponents im sheet most (componentsFrom im left p) s ≡ t
     components-stop n = components-one ∙ then-no _ _ n
 
-    pub components-last : t .walk .code ≡ 0 → c .last ≡ true → onComponents im sheet most (componentsFrom im left p) s ≡ t
+    pub components-last : t .walk .refusal ≡ 0 → c .last ≡ true → onComponents im sheet most (componentsFrom im left p) s ≡ t
     unfolding onComponents if_then_else_
     components-last y l = components-one ∙ then-yes _ _ y ∙ rw l
 
-    pub components-next : t .walk .code ≡ 0 → c .last ≡ false
+    pub components-next : t .walk .refusal ≡ 0 → c .last ≡ false
         → onComponents im sheet most (componentsFrom im left p) s ≡ onComponents im sheet most (componentsFrom im (left - 1) (c .next)) t
     unfolding if_then_else_
     components-next y l = components-one ∙ then-yes _ _ y ∙ rw l
@@ -213,34 +213,34 @@ module _ (im : List ℕ) (sheet : ℕ) where
         ap (λ (j : ℕ). state v (listed xs j)) g
         ∙ ap (λ (r : Walk). state r (listed xs (w .fields))) (f ∙ ap (λ (k : Head). takeLine im n before p k w) e)
 
-    pub line-stop : (v .code ≡ 0 → ⊥) → seen v xs ≡ line
+    pub line-stop : (v .refusal ≡ 0 → ⊥) → seen v xs ≡ line
     unfolding onLine
     line-stop b = sym (rw (← headed) (then-no (seen v xs) _ b))
 
-    line-body : v .code ≡ 0 → line ≡ onBody im sheet most (onTable im sheet most below) p (seen v xs)
+    line-body : v .refusal ≡ 0 → line ≡ onBody im sheet most (onTable im sheet most below) p (seen v xs)
     unfolding onLine
     line-body y = rw (← headed) (then-yes (seen v xs) _ y)
 
     module _
-        (y : v .code ≡ 0) (q : State)
+        (y : v .refusal ≡ 0) (q : State)
         (g : q ≡ onComponents im sheet most (componentsFrom im (length im + 1) (h .component)) (seen v xs)) where
       walked : q ≡ onComponents im sheet most (componentsOf im p) (seen v xs)
       unfolding componentsOf
       walked = g ∙ ap (λ (k : Head). onComponents im sheet most (componentsFrom im (length im + 1) (k .component)) (seen v xs)) e
 
-      pub line-bad : (q .walk .code ≡ 0 → ⊥) → q ≡ line
+      pub line-bad : (q .walk .refusal ≡ 0 → ⊥) → q ≡ line
       unfolding onBody
       line-bad b = sym (line-body y ∙ rw (← walked) (then-no q _ b))
 
-      line-submenu : q .walk .code ≡ 0 → line ≡ onSubmenu im sheet most (onTable im sheet most below) h q
+      line-submenu : q .walk .refusal ≡ 0 → line ≡ onSubmenu im sheet most (onTable im sheet most below) h q
       unfolding onBody
       line-submenu a = line-body y ∙ rw (← walked, ← e) (then-yes q _ a)
 
-      pub line-plain : q .walk .code ≡ 0 → h .submenu ≡ false → q ≡ line
+      pub line-plain : q .walk .refusal ≡ 0 → h .submenu ≡ false → q ≡ line
       unfolding onSubmenu if_then_else_
       line-plain a b = sym (line-submenu a ∙ rw b)
 
-      pub line-deep : (k : ℕ) (t r : Walk) (ys : List ℕ) → k ≡ most → q .walk .code ≡ 0 → h .submenu ≡ true
+      pub line-deep : (k : ℕ) (t r : Walk) (ys : List ℕ) → k ≡ most → q .walk .refusal ≡ 0 → h .submenu ≡ true
           → seen t ys ≡ onTable im sheet k below (h .table) q → r ≡ behind t (q .walk .at) → seen r ys ≡ line
       unfolding onSubmenu if_then_else_
       line-deep k t r ys z a b u i =
@@ -268,14 +268,14 @@ module _ (im : List ℕ) (sheet : ℕ) where
         let g : t ≡ onLine im sheet most (onTable im sheet most below) n before p s = f ∙ ap (λ (j : ℕ). onLine im sheet j (onTable im sheet j below) n before p s) z in
         ap (λ (ps : List ℕ). onLines im sheet most (onTable im sheet most below) n before ps s) (lines-here n p h l e) ∙ simp (← g)
 
-    pub lines-stop : (t .walk .code ≡ 0 → ⊥) → rest ≡ t
+    pub lines-stop : (t .walk .refusal ≡ 0 → ⊥) → rest ≡ t
     lines-stop b = lines-one (headAt im p) refl ∙ then-no _ _ b
 
-    pub lines-last : (h : Head) → h ≡ headAt im p → t .walk .code ≡ 0 → h .last ≡ true → rest ≡ t
+    pub lines-last : (h : Head) → h ≡ headAt im p → t .walk .refusal ≡ 0 → h .last ≡ true → rest ≡ t
     unfolding onLines if_then_else_
     lines-last h e y a = lines-one h e ∙ then-yes _ _ y ∙ rw a
 
-    pub lines-next : (h : Head) → h ≡ headAt im p → t .walk .code ≡ 0 → h .last ≡ false
+    pub lines-next : (h : Head) → h ≡ headAt im p → t .walk .refusal ≡ 0 → h .last ≡ false
         → rest ≡ onLines im sheet most (onTable im sheet most below) (n + 1) p (linesFrom im (100 - (n + 1)) (h .next)) t
     unfolding if_then_else_
     lines-next h e y a = lines-one h e ∙ then-yes _ _ y ∙ rw a
@@ -293,19 +293,19 @@ module _ (im : List ℕ) (sheet : ℕ) where
         ap (λ (j : ℕ). state v (listed xs j)) g
         ∙ ap (λ (r : Walk). state r (listed xs (w .fields))) (f ∙ ap (λ (k : Title). takeTitle k w) e)
 
-    stop-by : (d : ℕ) → (v .code ≡ 0 → ⊥) → seen v xs ≡ onTable im sheet most d at (seen w xs)
+    stop-by : (d : ℕ) → (v .refusal ≡ 0 → ⊥) → seen v xs ≡ onTable im sheet most d at (seen w xs)
     unfolding onTable
     stop-by zero b = sym (rw (← entered) (then-no (seen v xs) _ b))
     stop-by (suc d) b = sym (rw (← entered) (then-no (seen v xs) _ b))
 
-    pub table-stop : (v .code ≡ 0 → ⊥) → seen v xs ≡ onTable im sheet most left at (seen w xs)
+    pub table-stop : (v .refusal ≡ 0 → ⊥) → seen v xs ≡ onTable im sheet most left at (seen w xs)
     table-stop b = stop-by left b
 
-    pub table-deep : (r : Walk) → v .code ≡ 0 → left ≡ 0 → r ≡ refused v 8 → seen r xs ≡ onTable im sheet most left at (seen w xs)
+    pub table-deep : (r : Walk) → v .refusal ≡ 0 → left ≡ 0 → r ≡ refused v 8 → seen r xs ≡ onTable im sheet most left at (seen w xs)
     unfolding onTable
     table-deep r y z i = rw (z, i) (sym (rw (← entered) (then-yes (seen v xs) _ y)))
 
-    pub table-lines : v .code ≡ 0 → (left ≡ 0 → ⊥)
+    pub table-lines : v .refusal ≡ 0 → (left ≡ 0 → ⊥)
         → onTable im sheet most left at (seen w xs)
         ≡ onLines im sheet most (onTable im sheet most (left - 1)) 0 0 (linesFrom im 100 (t .line)) (seen v xs)
     unfolding onTable linesOf

@@ -30,7 +30,7 @@ pub record Came (s : State) (lines : ℕ) (es : List Entry) : Type 0 where
 
 module _ (im : List ℕ) (A : Agree im) where
   pub head-reads : {n before p end : ℕ} → Head im n before p end → HeadReads im p
-  head-reads {p = p} h = A .head-reads p (A .head-is h .code)
+  head-reads {p = p} h = A .head-reads p (A .head-is h .refusal)
 
   pub last-marked : {p : ℕ} → HeadReads im p → isLast im p ≡ 1 → headAt im p .last ≡ true
   last-marked {p} r b = by-test (headAt im p .last) (λ e. e) (λ e. absurd (omega (arith, r .more e)))
@@ -115,7 +115,7 @@ module _ (im : List ℕ) (A : Agree im) (sheet most : ℕ) where
       pub end : ℕ
       pub count : ℕ
       pub fields : List Field
-      pub code : headAt im p .code ≡ 0
+      pub refusal : headAt im p .refusal ≡ 0
       pub few : n < mostLinesOfTable
       pub aligned : Aligned im 1 at p
       pub line : Line im Sub n before p end fields count
@@ -139,7 +139,7 @@ module _ (im : List ℕ) (A : Agree im) (sheet most : ℕ) where
         h = head-read im A sheet most n before p at lines es (t .before)
 
         r : HeadReads im p
-        r = A .head-reads p (h .code)
+        r = A .head-reads p (h .refusal)
 
         mid : ℕ
         mid = headAt im p .end
@@ -173,7 +173,7 @@ module _ (im : List ℕ) (A : Agree im) (sheet most : ℕ) where
           end = c .end;
           count = 1;
           fields = c .fields;
-          code = h .code;
+          refusal = h .refusal;
           few = h .few;
           aligned = h .aligned;
           line = Line.plain mid (h .head) (c .components) (r .plain e);
@@ -188,7 +188,7 @@ module _ (im : List ℕ) (A : Agree im) (sheet most : ℕ) where
               end = c .end;
               count = 1 + d .count;
               fields = c .fields ++ d .fields;
-              code = h .code;
+              refusal = h .refusal;
               few = h .few;
               aligned = h .aligned;
               line = Line.submenu mid (h .head) (c .components) (r .submenu e) (subst (λ (x : ℕ). Sub x (d .fields) (d .count)) (r .table) (d .table));

@@ -33,16 +33,16 @@ module _ (im : List ℕ) (A : Agree im) where
   -- what the grammar's bit of the last component says of the reader's
   pub last-true : {p end : ℕ} {fs : List Field} → Component im p end fs → lastBit im p ≡ 1 → componentAt im p .last ≡ true
   last-true {p} c l =
-      let r = A .component-reads p (A .component-is c .code) in by-test (componentAt im p .last) (λ e. e) (λ e. absurd (omega (arith, r .more e)))
+      let r = A .component-reads p (A .component-is c .refusal) in by-test (componentAt im p .last) (λ e. e) (λ e. absurd (omega (arith, r .more e)))
 
   pub last-false : {p end : ℕ} {fs : List Field} → Component im p end fs → lastBit im p ≡ 0 → componentAt im p .last ≡ false
   last-false {p} c l =
-      let r = A .component-reads p (A .component-is c .code) in by-test (componentAt im p .last) (λ e. absurd (omega (arith, r .last e))) (λ e. e)
+      let r = A .component-reads p (A .component-is c .refusal) in by-test (componentAt im p .last) (λ e. absurd (omega (arith, r .last e))) (λ e. e)
 
   -- the turns left are enough for the component at p, the first from `at` on, and for those behind it
   pub no-turns : {X : Type 0} {at p mid : ℕ} {fs : List Field} → Aligned im 0 at p → Component im p mid fs → (c : ℕ) → c ≡ evenFrom at → length im + 1 < c + 0 → X
   no-turns {p = p} a x c e h =
-      let r = A .component-reads p (A .component-is x .code) in absurd (omega (arith, r .after, r .inside, A .even-is a .stands))
+      let r = A .component-reads p (A .component-is x .refusal) in absurd (omega (arith, r .after, r .inside, A .even-is a .stands))
 
   pub record Turn (c p mid k : ℕ) : Type 0 where
     pub here : c ≡ p
@@ -53,7 +53,7 @@ module _ (im : List ℕ) (A : Agree im) where
       {at p mid : ℕ} {fs : List Field} → Aligned im 0 at p → Component im p mid fs → (k c : ℕ) → c ≡ evenFrom at → length im + 1 < c + suc k → Turn c p mid k
   turn {p = p} a x k c e h =
       let i = A .component-is x in
-      let r = A .component-reads p (i .code) in
+      let r = A .component-reads p (i .refusal) in
       let s = A .even-is a .stands in
       record { here = e ∙ sym s; next = omega (arith, r .next, i .ends); enough = omega (arith, s, r .next, r .after) }
 
@@ -115,7 +115,7 @@ module _ (im : List ℕ) (A : Agree im) (sheet most : ℕ) where
       w = component-read im A sheet most c at lines es (t .before)
 
       r : ComponentReads im c
-      r = A .component-reads c (w .code)
+      r = A .component-reads c (w .refusal)
 
       end : ℕ
       end = componentAt im c .end

@@ -47,7 +47,7 @@ some-line im t = omega arith
 
 -- a component: it reads without fault, and its field is one of the image's
 pub record PartIn (im : List ℕ) (fields : List Field) (c : ℕ) : Type 0 where
-  pub code : componentAt im c .code ≡ 0
+  pub refusal : componentAt im c .refusal ≡ 0
   pub known : componentAt im c .holds ≡ true → List·Memᴰ (componentAt im c .field) fields
 
 -- a line's components, in order: the last of the list has the mark of the last, and no other has it
@@ -64,7 +64,7 @@ pub record Reached (im : List ℕ) (fields : List Field) (left t : ℕ) : Type 0
 
 -- a line: head and components read without fault, and its submenu, if any, is a table reached with a level less
 pub record LineIn (im : List ℕ) (fields : List Field) (left p : ℕ) : Type 0 where
-  pub code : headAt im p .code ≡ 0
+  pub refusal : headAt im p .refusal ≡ 0
   pub good : headAt im p .good ≡ true
   pub parts : Chain im fields (componentsOf im p)
   pub below : headAt im p .submenu ≡ true → Reached im fields left (headAt im p .table)
@@ -106,7 +106,7 @@ module _ (im : List ℕ) (A : Agree im) (fields : List Field) where
   part-in {p} x a =
       let i = A .component-is x in
       record {
-        code = i .code;
+        refusal = i .refusal;
         known = λ e.
             a (componentAt im p .field)
             (rw (← i .fields, if-true (componentAt im p .field ∷ []) [] e) (List·Memᴰ·head refl));
@@ -140,10 +140,10 @@ module _ (im : List ℕ) (A : Agree im) (fields : List Field) where
   unfolding componentsOf
   body-in {p = p} {mid = mid} left h cs a s =
       let i = A .head-is h in
-      let r = A .head-reads p (i .code) in
+      let r = A .head-reads p (i .refusal) in
       let c : headAt im p .component ≡ evenFrom mid = omega (arith, r .component, i .ends) in
       record {
-        code = i .code;
+        refusal = i .refusal;
         good = i .good;
         parts = chain-of cs (length im + 1) (headAt im p .component) c (omega (arith, r .after, i .ends)) a;
         below = s;
@@ -185,9 +185,9 @@ module _ (im : List ℕ) (A : Agree im) (fields : List Field) where
   -- ---- tables
 
   -- a table reached has a title
-  pub title-reached : (left t : ℕ) → Reached im fields (suc left) t → titleAt im t .code ≡ 0
+  pub title-reached : (left t : ℕ) → Reached im fields (suc left) t → titleAt im t .refusal ≡ 0
   unfolding Table
-  title-reached left t r = A .title-is (r .table .title) .code
+  title-reached left t r = A .title-is (r .table .title) .refusal
 
   -- a table reached has at most 99 lines
   pub few-lines : (left t : ℕ) → Reached im fields (suc left) t → lineCount im t ≤ mostLinesOfTable

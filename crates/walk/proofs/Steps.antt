@@ -36,21 +36,21 @@ padded-reads im at p =
 module _ (im : List ℕ) (A : Agree im) (sheet most : ℕ) where
   -- ---- a title: taken where it reads without fault, and nowhere else
 
-  pub title-goes : (t at lines : ℕ) (es : List Entry) → titleAt im t .code ≡ 0 → onTitle im sheet most t (stood at lines es) ≡ stood (titleAt im t .end) lines es
+  pub title-goes : (t at lines : ℕ) (es : List Entry) → titleAt im t .refusal ≡ 0 → onTitle im sheet most t (stood at lines es) ≡ stood (titleAt im t .end) lines es
   unfolding onTitle takeTitle
-  title-goes t at lines es z = ap (with (stood at lines es)) (if-eq (titleAt im t .code) 0 _ _ z)
+  title-goes t at lines es z = ap (with (stood at lines es)) (if-eq (titleAt im t .refusal) 0 _ _ z)
 
-  pub title-read : (t : ℕ) (s : State) → fine (onTitle im sheet most t s) ≡ true → titleAt im t .code ≡ 0
+  pub title-read : (t : ℕ) (s : State) → fine (onTitle im sheet most t s) ≡ true → titleAt im t .refusal ≡ 0
   unfolding onTitle takeTitle
   title-read t s =
-      if-ind (λ (w : Walk). fine (with s w) ≡ true → titleAt im t .code ≡ 0) (titleAt im t .code =? 0)
-      (λ e h. eqb-true _ 0 e) (λ e h. code-refused s (titleAt im t .code) e h)
+      if-ind (λ (w : Walk). fine (with s w) ≡ true → titleAt im t .refusal ≡ 0) (titleAt im t .refusal =? 0)
+      (λ e h. eqb-true _ 0 e) (λ e h. code-refused s (titleAt im t .refusal) e h)
 
   -- ---- a line's head
 
   -- what is known of a head that the walk takes
   pub record Headed (n before p at lines : ℕ) : Type 0 where
-    pub code : headAt im p .code ≡ 0
+    pub refusal : headAt im p .refusal ≡ 0
     pub head : Head im n before p (headAt im p .end)
     pub aligned : Aligned im 1 at p
     pub few : n < mostLinesOfTable
@@ -73,7 +73,7 @@ module _ (im : List ℕ) (A : Agree im) (sheet most : ℕ) where
       let i = A .head-is h in
       let q = A .odd-is a in
       ap (with (stood at lines es))
-      (if-eq (headAt im p .code) 0 _ _ (i .code)
+      (if-eq (headAt im p .refusal) 0 _ _ (i .refusal)
       ∙ if-true _ _ (and-i (eq-eqb p (oddFrom at) (q .stands)) (and-i (padded-is im at p (q .zeroed)) (agrees-is n before p end h)))
       ∙ if-gt mostLinesOfTable n _ _ few ∙ if-gt mostLines lines _ _ room ∙ if-true _ _ (i .good))
       ∙ ap (λ (x : ℕ). stood x (lines + 1) es) (i .ends)
@@ -95,7 +95,7 @@ module _ (im : List ℕ) (A : Agree im) (sheet most : ℕ) where
         (λ _ f. absurd (false≢true f))
         (λ f b. r .head g n before (λ o. absurd (z o)) (λ l. f) (λ l. eqb-true _ p b)))
 
-    placed-read : headAt im p .code ≡ 0 → linePlaced im n before p (headAt im p) (s .walk) ≡ true → P (countLine n (headAt im p) (s .walk))
+    placed-read : headAt im p .refusal ≡ 0 → linePlaced im n before p (headAt im p) (s .walk) ≡ true → P (countLine n (headAt im p) (s .walk))
     unfolding linePlaced countLine
     placed-read z e =
         let r = A .head-reads p z in
@@ -104,7 +104,7 @@ module _ (im : List ℕ) (A : Agree im) (sheet most : ℕ) where
         (λ f. if-ind P (mostLines ≤? lines) (λ _ h. is-refused s 7 h)
         (λ l. if-ind P (headAt im p .good)
         (λ g h. record {
-          code = z;
+          refusal = z;
           head = agrees-read g r (and-r _ _ (and-r _ _ e));
           aligned = A .odd-aligned at p q (omega (arith, r .after, r .inside));
           few = leb-false mostLinesOfTable n f;
@@ -116,39 +116,39 @@ module _ (im : List ℕ) (A : Agree im) (sheet most : ℕ) where
     pub head-read : fine (onHead im sheet most n before p s) ≡ true → Headed n before p at lines
     unfolding onHead takeLine
     head-read =
-        if-ind P (headAt im p .code =? 0)
+        if-ind P (headAt im p .refusal =? 0)
         (λ e. if-ind P (linePlaced im n before p (headAt im p) (s .walk)) (λ f. placed-read (eqb-true _ 0 e) f) (λ _ h. is-refused s 6 h))
-        (λ e h. code-refused s (headAt im p .code) e h)
+        (λ e h. code-refused s (headAt im p .refusal) e h)
 
   -- ---- a component
 
   -- a component without fault is taken with its field, if it is one
   part-goes :
-      (c : read.Component) (p at lines : ℕ) (es : List Entry) → c .code ≡ 0 → padded im at p ≡ true → Takes sheet most es (fieldsOf c) →
+      (c : read.Component) (p at lines : ℕ) (es : List Entry) → c .refusal ≡ 0 → padded im at p ≡ true → Takes sheet most es (fieldsOf c) →
       takeComponent im sheet most p c (stood at lines es) ≡ stood (c .end) lines (put es (fieldsOf c))
   unfolding takeComponent takeField
   part-goes c p at lines es z d t =
-      if-ne (c .code) 6 _ _ (λ e. omega arith) ∙ if-true _ _ d ∙ by-test {A = chosen ≡ stood (c .end) lines (put es (fieldsOf c))} (c .holds) field plain
+      if-ne (c .refusal) 6 _ _ (λ e. omega arith) ∙ if-true _ _ d ∙ by-test {A = chosen ≡ stood (c .end) lines (put es (fieldsOf c))} (c .holds) field plain
     where
       s : State
       s = stood at lines es
 
       go : Takes sheet most es (c .field ∷ []) → takeField sheet most c s ≡ stood (c .end) lines (put es (c .field ∷ []))
       go (Takes.add a b f u) =
-          if-gt most (length es) _ _ a ∙ if-eq (c .code) 0 _ _ z ∙ if-true _ _ b ∙ if-true _ _ f
-          ∙ ap (λ (k : ℕ). state (record { code = 0; at = c .end; lines = lines; fields = k }) (put es (c .field ∷ []))) (sym (length-append es (entryOf (c .field) ∷ [])))
+          if-gt most (length es) _ _ a ∙ if-eq (c .refusal) 0 _ _ z ∙ if-true _ _ b ∙ if-true _ _ f
+          ∙ ap (λ (k : ℕ). state (record { refusal = 0; at = c .end; lines = lines; fields = k }) (put es (c .field ∷ []))) (sym (length-append es (entryOf (c .field) ∷ [])))
 
       chosen : State
       chosen =
           if c .holds then takeField sheet most c s
-          else if c .code =? 0 then with s (passed (s .walk) (c .end))
-          else with s (refused (s .walk) (c .code))
+          else if c .refusal =? 0 then with s (passed (s .walk) (c .end))
+          else with s (refused (s .walk) (c .refusal))
 
       field : c .holds ≡ true → chosen ≡ stood (c .end) lines (put es (fieldsOf c))
       field e = if-true _ _ e ∙ rw (if-true (c .field ∷ []) [] e) (go (rw (if-true (c .field ∷ []) [] e) at t))
 
       plain : c .holds ≡ false → chosen ≡ stood (c .end) lines (put es (fieldsOf c))
-      plain e = if-false _ _ e ∙ if-eq (c .code) 0 _ _ z ∙ rw (if-false (c .field ∷ []) [] e, append-nil)
+      plain e = if-false _ _ e ∙ if-eq (c .refusal) 0 _ _ z ∙ rw (if-false (c .field ∷ []) [] e, append-nil)
 
   -- a component of the grammar is taken
   pub component-goes :
@@ -157,11 +157,11 @@ module _ (im : List ℕ) (A : Agree im) (sheet most : ℕ) where
   unfolding onComponent
   component-goes p end at lines es fs c a t =
       let i = A .component-is c in
-      part-goes (componentAt im p) p at lines es (i .code) (padded-is im at p (A .even-is a .zeroed)) (rw (i .fields) t) ∙ rw (i .ends, i .fields)
+      part-goes (componentAt im p) p at lines es (i .refusal) (padded-is im at p (A .even-is a .zeroed)) (rw (i .fields) t) ∙ rw (i .ends, i .fields)
 
   -- what is known of a component that the walk takes
   pub record Taken (p at : ℕ) (es : List Entry) : Type 0 where
-    pub code : componentAt im p .code ≡ 0
+    pub refusal : componentAt im p .refusal ≡ 0
     pub padding : (at ≡ p → ⊥) → byteAt im at ≡ 0
     pub takes : Takes sheet most es (fieldsOf (componentAt im p))
 
@@ -179,26 +179,26 @@ module _ (im : List ℕ) (A : Agree im) (sheet most : ℕ) where
     unfolding takeField
     field-read d f =
         if-ind Q (most ≤? length es) (λ _ h. is-refused u 7 h)
-        (λ k. if-ind Q (c .code =? 0)
+        (λ k. if-ind Q (c .refusal =? 0)
         (λ e. if-ind Q (inSheet sheet (entryOf (c .field)))
         (λ i. if-ind Q (apartFrom (entryOf (c .field)) es)
         (λ a h. record {
-          code = eqb-true _ 0 e;
+          refusal = eqb-true _ 0 e;
           padding = padded-reads im at p d;
           takes = rw (if-true (c .field ∷ []) [] f) (Takes.add (leb-false most (length es) k) i a Takes.none);
         })
         (λ _ h. is-refused u 10 h))
         (λ _ h. is-refused u 9 h))
-        (λ e h. code-refused u (c .code) e h))
+        (λ e h. code-refused u (c .refusal) e h))
 
     -- a component that the walk takes reads without fault, with its padding and its field
     pub component-read : fine (onComponent im sheet most p u) ≡ true → Taken p at es
     unfolding onComponent takeComponent
     component-read =
-        if-ind Q (c .code =? 6) (λ _ h. is-refused u 5 h)
+        if-ind Q (c .refusal =? 6) (λ _ h. is-refused u 5 h)
         (λ _. if-ind Q (padded im at p)
         (λ d. if-ind Q (c .holds) (field-read d)
-        (λ f. if-ind Q (c .code =? 0)
-        (λ e h. record { code = eqb-true _ 0 e; padding = padded-reads im at p d; takes = rw (if-false (c .field ∷ []) [] f) Takes.none })
-        (λ e h. code-refused u (c .code) e h)))
+        (λ f. if-ind Q (c .refusal =? 0)
+        (λ e h. record { refusal = eqb-true _ 0 e; padding = padded-reads im at p d; takes = rw (if-false (c .field ∷ []) [] f) Takes.none })
+        (λ e h. code-refused u (c .refusal) e h)))
         (λ _ h. is-refused u 6 h))

@@ -19,7 +19,7 @@ clash p q = absurd (true≢false (sym p ∙ q))
 
 -- the walk has come to `at`, with so many lines and these fields
 abbrev pub stood : ℕ → ℕ → List Entry → State
-stood at lines es = state (record { code = 0; at = at; lines = lines; fields = length es }) es
+stood at lines es = state (record { refusal = 0; at = at; lines = lines; fields = length es }) es
 
 -- the entries es with those of the fields fs behind them
 abbrev pub put : List Entry → List Field → List Entry

@@ -39,7 +39,7 @@ line-reads im A (Line.submenu mid h cs b s) = head-reads im A h
 -- where the first line stands
 pub first-line : (im : List ℕ) (A : Agree im) {Sub : ℕ → List Field → ℕ → Type 0} {t k : ℕ} {fs : List Field} (x : TableOver im Sub t fs k) → titleAt im t .line ≡ x .firstLine
 first-line im A {t = t} x =
-    let i = A .title-is (x .title) in omega (arith, A .title-reads t (i .code) .line, i .ends, A .odd-is (x .aligned) .stands)
+    let i = A .title-is (x .title) in omega (arith, A .title-reads t (i .refusal) .line, i .ends, A .odd-is (x .aligned) .stands)
 
 -- what was reached, told otherwise
 came-by : {s r : State} {lines k : ℕ} {es fs : List Entry} → s ≡ r → lines ≡ k → es ≡ fs → Came r lines es → Came s k fs
@@ -111,7 +111,7 @@ module _ (im : List ℕ) (A : Agree im) (sheet most : ℕ) where
         x = line-read im A sheet most submenu Sub reads n before p at lines es (t .before)
 
         h : HeadReads im p
-        h = A .head-reads p (x .code)
+        h = A .head-reads p (x .refusal)
 
         step : one ≡ stood (x .end) (lines + x .count) (put es (x .fields))
         step = line-goes im A sheet most submenu Sub go (x .line) at lines es (x .few) (x .aligned) (x .takes) (x .room)
@@ -152,7 +152,7 @@ module _ (im : List ℕ) (A : Agree im) (sheet most : ℕ) where
   table-goes zero = λ t at lines es fs k x. absurd x
   table-goes (suc left) = λ t at lines es fs k x u l.
       let i = A .title-is (x .title) in
-      let s : onTitle im sheet most t (stood at lines es) ≡ stood (x .titleEnd) lines es = title-goes im A sheet most t at lines es (i .code) ∙ rw (i .ends) in
+      let s : onTitle im sheet most t (stood at lines es) ≡ stood (x .titleEnd) lines es = title-goes im A sheet most t at lines es (i .refusal) ∙ rw (i .ends) in
       came-by
       (then-is (onLines im sheet most (onTable im sheet most left) 0 0 (linesFrom im (mostLinesOfTable + 1) (titleAt im t .line))) _ (x .titleEnd) lines es s ∙ rw (first-line im A x))
       refl refl

@@ -52,26 +52,26 @@ module _ (im : List ℕ) where
 
   -- for the walk, which stops at a refusal, that follows from what is known of components without fault
   module _ (A : Agree im) (sheet most : ℕ) where
-    part-code : (c : ℕ) (s : State) → fine (onComponent im sheet most c s) ≡ true → componentAt im c .code ≡ 0
+    part-code : (c : ℕ) (s : State) → fine (onComponent im sheet most c s) ≡ true → componentAt im c .refusal ≡ 0
     unfolding onComponent takeComponent takeField
     part-code c s =
-        if-ind P (x .code =? 6) (λ _ h. is-refused s 5 h)
+        if-ind P (x .refusal =? 6) (λ _ h. is-refused s 5 h)
         (λ _. if-ind P (padded im (s .walk .at) c)
         (λ _. if-ind P (x .holds)
         (λ _. if-ind P (most ≤? s .walk .fields) (λ _ h. is-refused s 7 h)
-        (λ _. if-ind P (x .code =? 0) (λ e _. eqb-true _ 0 e) (λ e h. code-refused s (x .code) e h)))
-        (λ _. if-ind P (x .code =? 0) (λ e _. eqb-true _ 0 e) (λ e h. code-refused s (x .code) e h)))
+        (λ _. if-ind P (x .refusal =? 0) (λ e _. eqb-true _ 0 e) (λ e h. code-refused s (x .refusal) e h)))
+        (λ _. if-ind P (x .refusal =? 0) (λ e _. eqb-true _ 0 e) (λ e h. code-refused s (x .refusal) e h)))
         (λ _ h. is-refused s 6 h))
       where
         x : read.Component
         x = componentAt im c
 
         P : State → Type 0
-        P r = fine r ≡ true → componentAt im c .code ≡ 0
+        P r = fine r ≡ true → componentAt im c .refusal ≡ 0
 
     same-parts :
         (c : ℕ) (cs ds : List ℕ) (s : State) →
-        (componentAt im c .code ≡ 0 → (r : State) → onComponents im sheet most cs r ≡ onComponents im sheet most ds r) →
+        (componentAt im c .refusal ≡ 0 → (r : State) → onComponents im sheet most cs r ≡ onComponents im sheet most ds r) →
         onComponents im sheet most (c ∷ cs) s ≡ onComponents im sheet most (c ∷ ds) s
     unfolding onComponents
     same-parts c cs ds s h = then-same _ _ _ (λ f. h (part-code c s f) _)
@@ -102,12 +102,12 @@ module _ (im : List ℕ) where
     head-few : (n before p : ℕ) (s : State) → fine (onHead im sheet most n before p s) ≡ true → n < mostLinesOfTable
     unfolding onHead takeLine countLine
     head-few n before p s =
-        if-ind P (headAt im p .code =? 0)
+        if-ind P (headAt im p .refusal =? 0)
         (λ _. if-ind P (linePlaced im n before p (headAt im p) (s .walk))
         (λ _. if-ind P (mostLinesOfTable ≤? n) (λ _ h. is-refused s 7 h)
         (λ e _. leb-false mostLinesOfTable n e))
         (λ _ h. is-refused s 6 h))
-        (λ e h. code-refused s (headAt im p .code) e h)
+        (λ e h. code-refused s (headAt im p .refusal) e h)
       where
         P : Walk → Type 0
         P w = fine (with s w) ≡ true → n < mostLinesOfTable

@@ -1,9 +1,9 @@
 -- The check of an image and a sheet: 01's table of refusals, structure by structure in the order of the walk: depth first, lines in
 -- order, a line's components before its submenu; the first structure at fault decides, and at one structure the lowest number.
-use Prim.Native.Nat.{ℕ, zero, suc, _+_, _-_, _*_}
+use Prim.Native.Nat.{ℕ, zero, suc, _+_}
 use mathlib.Core.Bool.{Bool, true, false}
 use mathlib.Core.List.{List, [], _∷_, _++_}
-use lib.ListN.{length, getD}
+use lib.ListN.{length}
 use Rattle.laws.specs.Choice.{if_then_else_, _and_, _=?_, _<?_, _≤?_}
 use Rattle.laws.specs.Bytes.{byteAt, room}
 use Rattle.field.specs.Sheet.{sizeOf}
@@ -17,7 +17,7 @@ use Rattle.cmf.specs.declared.component.Component.{Component}
 use Rattle.walk.specs.declared.index.Entry.{Entry}
 use Rattle.walk.specs.declared.state.Walk.{Walk}
 
--- the walk's state, and the fields that it has reached, in order
+-- the walk's state, and the fields that it has taken, in order
 pub record State : Type 0 where
   pub walk : Walk
   pub fields : List Entry
@@ -30,31 +30,31 @@ with s w = state w (s .fields)
 
 -- no refusal so far
 unfoldable pub fine : State → Bool
-fine s = s .walk .code =? 0
+fine s = s .walk .refusal =? 0
 
 abbrev pub refused : Walk → ℕ → Walk
-refused w k = record { code = k; at = w .at; lines = w .lines; fields = w .fields }
+refused w k = record { refusal = k; at = w .at; lines = w .lines; fields = w .fields }
 
 -- a thing that ends at `at` is read
 abbrev pub passed : Walk → ℕ → Walk
-passed w at = record { code = 0; at = at; lines = w .lines; fields = w .fields }
+passed w at = record { refusal = 0; at = at; lines = w .lines; fields = w .fields }
 
 -- the walk goes on behind a line that ends at `at`
 abbrev pub behind : Walk → ℕ → Walk
-behind w at = record { code = w .code; at = at; lines = w .lines; fields = w .fields }
+behind w at = record { refusal = w .refusal; at = at; lines = w .lines; fields = w .fields }
 
 -- the second, unless the first is a refusal
 unfoldable pub andThen : State → State → State
 andThen x y = if fine x then y else x
 
--- R6: what stands at `place` follows what ended at `at`, at once or behind one zero byte
+-- R6: what stands at `place`, which is `at` or the byte behind it, follows what ended at `at`, at once or behind one zero byte
 unfoldable pub padded : List ℕ → ℕ → ℕ → Bool
 padded im at place = if at =? place then true else byteAt im at =? 0
 
 -- ---- a table's title
 
 unfoldable pub takeTitle : Title → Walk → Walk
-takeTitle t w = if t .code =? 0 then passed w (t .end) else refused w (t .code)
+takeTitle t w = if t .refusal =? 0 then passed w (t .end) else refused w (t .refusal)
 
 -- ---- a line's head
 
@@ -69,61 +69,61 @@ agrees n before p h =
 unfoldable pub linePlaced : List ℕ → ℕ → ℕ → ℕ → Head → Walk → Bool
 linePlaced im n before p h w = (p =? oddFrom (w .at)) and (padded im (w .at) p and agrees n before p h)
 
--- 01, row 8: the 100th line of its table or the 1,025th of the image is at fault; row 9: so is a bad password
+-- 01, row 8: the 100th line of its table or the 1,025th of the walk is at fault; row 9: so is a bad password
 unfoldable pub countLine : ℕ → Head → Walk → Walk
 countLine n h w =
     if mostLinesOfTable ≤? n then refused w 8
     else if mostLines ≤? w .lines then refused w 8
-    else if h .good then record { code = 0; at = h .end; lines = w .lines + 1; fields = w .fields }
+    else if h .good then record { refusal = 0; at = h .end; lines = w .lines + 1; fields = w .fields }
     else refused w 9
 
 unfoldable pub takeLine : List ℕ → ℕ → ℕ → ℕ → Head → Walk → Walk
 takeLine im n before p h w =
-    if h .code =? 0 then (if linePlaced im n before p h w then countLine n h w else refused w 7)
-    else refused w (h .code)
+    if h .refusal =? 0 then (if linePlaced im n before p h w then countLine n h w else refused w 7)
+    else refused w (h .refusal)
 
 -- ---- a component
 
 abbrev pub entryOf : Field → Entry
-entryOf f = record { place = f .image .0; from = f .sheet .0; size = sizeOf f }
+entryOf f = record { place = f .image; from = f .sheet; size = sizeOf f }
 
 -- 01, row 10: the sheet is not too long, and the field's bytes lie in it
 unfoldable pub inSheet : ℕ → Entry → Bool
-inSheet sheet e = (sheet ≤? longestSheet) and room sheet (e .from) (e .size)
+inSheet sheet e = (sheet ≤? longestSheet) and room sheet (e .from .0) (e .size)
 
 -- 01, row 11: two fields share no byte if either has none or one ends where the other begins or before
 unfoldable pub apart : Entry → Entry → Bool
 apart e f =
     if e .size =? 0 then true
     else if f .size =? 0 then true
-    else if (e .from + e .size) ≤? f .from then true
-    else (f .from + f .size) ≤? e .from
+    else if (e .from .0 + e .size) ≤? f .from .0 then true
+    else (f .from .0 + f .size) ≤? e .from .0
 
 -- a field shares no byte with any of the earlier ones
 unfoldable pub apartFrom : Entry → List Entry → Bool
 apartFrom e [] = true
 apartFrom e (f ∷ fs) = apart e f and apartFrom e fs
 
--- a field: 8 for one too many, 9 for bad settings, 10 and 11 for its bytes in the sheet
+-- a field: 8 if there are as many as there may be (`most`: the code's array has room for no more), 9 for bad settings, 10 and 11 for its bytes in the sheet
 unfoldable pub takeField : ℕ → ℕ → Component → State → State
 takeField sheet most c s =
     if most ≤? s .walk .fields then with s (refused (s .walk) 8)
-    else if c .code =? 0 then
+    else if c .refusal =? 0 then
     (if inSheet sheet (entryOf (c .field)) then
     (if apartFrom (entryOf (c .field)) (s .fields) then
-    state (record { code = 0; at = c .end; lines = s .walk .lines; fields = s .walk .fields + 1 }) (s .fields ++ (entryOf (c .field) ∷ []))
+    state (record { refusal = 0; at = c .end; lines = s .walk .lines; fields = s .walk .fields + 1 }) (s .fields ++ (entryOf (c .field) ∷ []))
     else with s (refused (s .walk) 11))
     else with s (refused (s .walk) 10))
-    else with s (refused (s .walk) (c .code))
+    else with s (refused (s .walk) (c .refusal))
 
 -- a component at a place: 6 first, then 7 for the padding before it
 unfoldable pub takeComponent : List ℕ → ℕ → ℕ → ℕ → Component → State → State
 takeComponent im sheet most p c s =
-    if c .code =? 6 then with s (refused (s .walk) 6)
+    if c .refusal =? 6 then with s (refused (s .walk) 6)
     else if padded im (s .walk .at) p then
     (if c .holds then takeField sheet most c s
-    else if c .code =? 0 then with s (passed (s .walk) (c .end))
-    else with s (refused (s .walk) (c .code)))
+    else if c .refusal =? 0 then with s (passed (s .walk) (c .end))
+    else with s (refused (s .walk) (c .refusal)))
     else with s (refused (s .walk) 7)
 
 -- ---- the walk
@@ -164,7 +164,7 @@ module _ (im : List ℕ) (sheet most : ℕ) where
   onTable (suc left) t s = andThen (onTitle t s) (onLines (onTable left) 0 0 (linesOf im t) (onTitle t s))
 
 abbrev pub start : State
-start = state (record { code = 0; at = 0; lines = 0; fields = 0 }) []
+start = state (record { refusal = 0; at = 0; lines = 0; fields = 0 }) []
 
 -- the walk from the top table on
 unfoldable pub walked : List ℕ → ℕ → State
@@ -181,11 +181,11 @@ prologCode im =
     else 4)
     else 3
 
--- the refusal number of an image for a sheet of so many bytes, 0 for none, with the fields that were reached
+-- the refusal number of an image for a sheet of so many bytes, 0 for none, with the fields that were taken
 unfoldable pub checked : List ℕ → ℕ → State
 checked im sheet =
     if prologCode im =? 0 then walked im sheet
     else with start (refused (start .walk) (prologCode im))
 
 unfoldable pub refusalOf : List ℕ → ℕ → ℕ
-refusalOf im sheet = checked im sheet .walk .code
+refusalOf im sheet = checked im sheet .walk .refusal

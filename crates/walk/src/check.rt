@@ -39,10 +39,10 @@ fn is_padded(image: &[u8], at: usize, place: usize) -> bool
 fn take_title(t: Title, w: Walk) -> Walk
     ensures { λ r. ⌜ r ≡ takeTitle t w ⌝ }
 {
-    if t.code == 0 {
+    if t.refusal == 0 {
         return w.passed(t.end);
     }
-    w.refused(t.code)
+    w.refused(t.refusal)
 }
 
 // Whether a line's first mark and pointer back agree with the walk; n lines of its table come before it.
@@ -86,7 +86,7 @@ fn count_line(n: usize, h: Head, w: Walk) -> Walk
     }
     if h.good {
         return Walk {
-            code: 0,
+            refusal: 0,
             at: h.end,
             lines: w.lines + 1,
             fields: w.fields,
@@ -99,14 +99,14 @@ fn count_line(n: usize, h: Head, w: Walk) -> Walk
 fn take_line(image: &[u8], n: usize, before: usize, p: usize, h: Head, w: Walk) -> Walk
     ensures { λ r. ⌜ r ≡ takeLine (now (image .entry)) n before p h w ⌝ }
 {
-    if h.code == 0 {
+    if h.refusal == 0 {
         let placed = is_placed(image, n, before, p, h, w);
         if placed {
             return count_line(n, h, w);
         }
         return w.refused(7);
     }
-    w.refused(h.code)
+    w.refused(h.refusal)
 }
 
 // A field: counted, its settings, its bytes in the sheet.
@@ -119,8 +119,8 @@ fn take_field(sheet: usize, c: Component, w: Walk, index: &mut [usize]) -> Walk
     if index.len() / 3 <= k {
         return w.refused(8);
     }
-    if c.code != 0 {
-        return w.refused(c.code);
+    if c.refusal != 0 {
+        return w.refused(c.refusal);
     }
     let inside = entry.in_sheet(sheet);
     if !inside {
@@ -132,7 +132,7 @@ fn take_field(sheet: usize, c: Component, w: Walk, index: &mut [usize]) -> Walk
     }
     set_entry(&mut *index, k, entry);
     Walk {
-        code: 0,
+        refusal: 0,
         at: c.end,
         lines: w.lines,
         fields: k + 1,
@@ -150,7 +150,7 @@ fn take_component(
 ) -> Walk
     ensures { λ r. ⌜ seen r (now (index .exit)) ≡ takeComponent (now (image .entry)) sheet (capacity (now (index .entry))) p c (seen w (now (index .entry))) ⌝ }
 {
-    if c.code == 6 {
+    if c.refusal == 6 {
         return w.refused(6);
     }
     let zero = is_padded(image, w.at, p);
@@ -160,8 +160,8 @@ fn take_component(
     if c.holds {
         return take_field(sheet, c, w, index);
     }
-    if c.code != 0 {
-        return w.refused(c.code);
+    if c.refusal != 0 {
+        return w.refused(c.refusal);
     }
     w.passed(c.end)
 }
@@ -176,7 +176,7 @@ fn check_components(image: &[u8], sheet: usize, p: usize, w: Walk, index: &mut [
     while 0 < left {
         let component = read_component(image, c);
         v = take_component(image, sheet, c, component, v, &mut *index);
-        if v.code != 0 {
+        if v.refusal != 0 {
             return v;
         }
         if component.last {
@@ -203,11 +203,11 @@ fn check_line(
 {
     let h = read_head(image, p);
     let v = take_line(image, n, before, p, h, w);
-    if v.code != 0 {
+    if v.refusal != 0 {
         return v;
     }
     let q = check_components(image, sheet, h.component, v, &mut *index);
-    if q.code != 0 {
+    if q.refusal != 0 {
         return q;
     }
     if h.submenu {
@@ -230,7 +230,7 @@ fn check_table(
 {
     let t = read_title(image, at);
     let mut v = take_title(t, w);
-    if v.code != 0 {
+    if v.refusal != 0 {
         return v;
     }
     if left == 0 {
@@ -242,7 +242,7 @@ fn check_table(
     let mut p = t.line;
     while n < Image::MAX_TABLE_LINES + 1 {
         v = check_line(image, sheet, below, n, before, p, v, &mut *index);
-        if v.code != 0 {
+        if v.refusal != 0 {
             return v;
         }
         let h = read_head(image, p);
@@ -309,7 +309,7 @@ pub fn check(image: &[u8], sheet: usize) -> Checked
 {
     let mut index = [0usize; 768];
     let start = Walk {
-        code: 0,
+        refusal: 0,
         at: 0,
         lines: 0,
         fields: 0,

@@ -5,13 +5,15 @@ ghost use Rattle.laws.specs.Choice.{_≤?_};
 ghost use Rattle.walk.specs.Check.{entryOf, inSheet, apart, apartFrom};
 ghost use Rattle.walk.specs.Index.{entryAt, listed, withEntry};
 use cmf::image::Image;
+use field::kind::ImagePlace;
+use field::kind::SheetPlace;
 use field::record::Field;
 use field::table::profile_of;
 
 // A reached field: the place of its component's tag in the image, and its bytes in the sheet.
 pub struct Entry {
-    pub place: usize,
-    pub from: usize,
+    pub place: ImagePlace,
+    pub from: SheetPlace,
     pub size: usize,
 }
 
@@ -23,8 +25,8 @@ impl Entry {
         let place = f.image;
         let from = f.sheet;
         Entry {
-            place: place.0,
-            from: from.0 as usize,
+            place,
+            from,
             size: profile_of(kind).bytes as usize,
         }
     }
@@ -34,8 +36,8 @@ impl Entry {
         ensures { λ r. ⌜ r ≡ inSheet sheet self ⌝ }
     {
         if sheet <= Image::MAX_SHEET {
-            if self.from <= sheet {
-                return self.size <= sheet - self.from;
+            if self.from.0 <= sheet {
+                return self.size <= sheet - self.from.0;
             }
             return false;
         }
@@ -44,10 +46,10 @@ impl Entry {
 
     // Whether its bytes end at a place or before.
     fn ends_by(self, at: usize) -> bool
-        ensures { λ r. ⌜ r ≡ (self .from + self .size) ≤? at ⌝ }
+        ensures { λ r. ⌜ r ≡ (self .from .0 + self .size) ≤? at ⌝ }
     {
         if self.size <= at {
-            return self.from <= at - self.size;
+            return self.from.0 <= at - self.size;
         }
         false
     }
@@ -62,29 +64,29 @@ impl Entry {
         if other.size == 0 {
             return true;
         }
-        let before = self.ends_by(other.from);
+        let before = self.ends_by(other.from.0);
         if before {
             return true;
         }
-        other.ends_by(self.from)
+        other.ends_by(self.from.0)
     }
 }
 
-// The k-th entry of an index; none past its capacity.
+// The k-th entry of an index; zeros past its capacity.
 pub fn entry_at(index: &[usize], k: usize) -> Entry
     ensures { λ r. ⌜ r ≡ entryAt (now (index .entry)) k ⌝ }
 {
     if k < index.len() / 3 {
         let at = 3 * k;
         return Entry {
-            place: index[at],
-            from: index[at + 1],
+            place: ImagePlace(index[at]),
+            from: SheetPlace(index[at + 1]),
             size: index[at + 2],
         };
     }
     Entry {
-        place: 0,
-        from: 0,
+        place: ImagePlace(0),
+        from: SheetPlace(0),
         size: 0,
     }
 }
@@ -95,8 +97,8 @@ pub(crate) fn set_entry(index: &mut [usize], k: usize, e: Entry)
 {
     if k < index.len() / 3 {
         let at = 3 * k;
-        index[at] = e.place;
-        index[at + 1] = e.from;
+        index[at] = e.place.0;
+        index[at + 1] = e.from.0;
         index[at + 2] = e.size;
     }
 }

@@ -4,7 +4,7 @@ ghost use Rattle.walk.specs.Check.{refused, passed, behind};
 
 // The refusal number, 0 for none yet; where the last thing read ended; how many lines and fields were reached.
 pub struct Walk {
-    pub code: u8,
+    pub refusal: u8,
     pub at: usize,
     pub lines: usize,
     pub fields: usize,
@@ -15,7 +15,7 @@ impl Walk {
         ensures { λ r. ⌜ r ≡ refused self code ⌝ }
     {
         Walk {
-            code,
+            refusal: code,
             at: self.at,
             lines: self.lines,
             fields: self.fields,
@@ -27,7 +27,7 @@ impl Walk {
         ensures { λ r. ⌜ r ≡ passed self at ⌝ }
     {
         Walk {
-            code: 0,
+            refusal: 0,
             at,
             lines: self.lines,
             fields: self.fields,
@@ -39,7 +39,7 @@ impl Walk {
         ensures { λ r. ⌜ r ≡ behind self at ⌝ }
     {
         Walk {
-            code: self.code,
+            refusal: self.refusal,
             at,
             lines: self.lines,
             fields: self.fields,

@@ -18,6 +18,9 @@ value-at-requires c κs = search needs
 sheet-place-requires : tie.Need-sheet-place-requires
 sheet-place-requires c κs = search needs
 
+cast-t6 : tie.Need-cast-t6
+cast-t6 c = search needs
+
 returns : tie.Need-returns
 returns c = simp (c .before .before .before .before .kind-at .ensures, c .before .value-at .ensures, c .before .before .before .default-place .ensures, c .before .before .profile-of .ensures, c .sheet-place .ensures)
 
@@ -30,4 +33,5 @@ field-by-spec =
     profile-of-requires
     value-at-requires
     sheet-place-requires
+    cast-t6
     returns)

@@ -7,9 +7,6 @@ use borrow.Author.Needs.{needs}
 use Rattle.field.proofs.value.put.Statement.{statement}
 use Rattle.field.proofs.value.put.Tie as tie
 
-cast-at : tie.Need-cast-at
-cast-at c = search needs
-
 sub-store : tie.Need-sub-store
 sub-store c = search needs
 
@@ -26,16 +23,15 @@ same-length : tie.Need-same-length
 same-length c = search needs
 
 returns : tie.Need-returns
-returns c = put-tail (c .before .before .before .before .before .before .before .args .place .0) _ (now (c .before .before .before .before .before .before .before .args .sheet)) (c .before .before .store .last .0) (c .before .before .before .before .if1 .taken) (c .before .before .store .ensures)
+returns c = put-tail (c .before .before .before .before .before .before .args .place .0) _ (now (c .before .before .before .before .before .before .args .sheet)) (c .before .before .store .last .0) (c .before .before .before .before .if1 .taken) (c .before .before .store .ensures)
 
 returns-2 : tie.Need-returns-2
-returns-2 c = sym (put-out (c .before .before .before .args .place .0) _ (now (c .before .before .before .args .sheet)) (omega (arith, c .if1 .left)))
+returns-2 c = sym (put-out (c .before .before .args .place .0) _ (now (c .before .before .args .sheet)) (omega (arith, c .if1 .left)))
 
 pub put-spec : {M : Type 1} → statement M
 put-spec =
     tie.close
     (tie.spec
-    cast-at
     sub-store
     part-store-start
     part-store-end
