@@ -20,10 +20,13 @@ use cmf::title::Title;
 use cmf::title::read_title;
 use laws::byte_at;
 
+// The numbers of an index: three for each field that there may be.
+const INDEX: usize = 3 * Image::MAX_FIELDS;
+
 // What a check found: how far the walk came and its refusal number, and the fields that it reached, three numbers to a field.
 pub struct Checked {
     pub walk: Walk,
-    pub index: [usize; 768],
+    pub index: [usize; INDEX],
 }
 
 // Whether what stands at a place follows what ended before it at once, or behind one zero byte.
@@ -307,7 +310,7 @@ fn has_pair(image: &[u8], at: usize, low: u8, high: u8) -> bool
 pub fn check(image: &[u8], sheet: usize) -> Checked
     ensures { λ r. ⌜ seen (r .walk) (r .index) ≡ checked (now (image .entry)) sheet ⌝ }
 {
-    let mut index = [0usize; 768];
+    let mut index = [0usize; INDEX];
     let start = Walk {
         refusal: 0,
         at: 0,
