@@ -1,8 +1,8 @@
--- One turn of each loop over texts, digits and items, and the ways out of it; over variables, so that a loop's proof cites one line.
+-- One turn of each loop over texts, digits, items and lines, and the ways out of it; over variables, so that a loop's proof cites one line.
 use Prim.Native.Nat.{ℕ, zero, suc, _+_, _-_, _*_, _≤_, _<_, max}
 use mathlib.Core.Path.{_≡_, refl, sym, _∙_}
 use mathlib.Core.Bool.{true, false}
-use mathlib.Core.List.{List}
+use mathlib.Core.List.{List, []}
 use native.Mathlib.Omega.{arith}
 use native.Mathlib.Nat.{zero-mul, one-mul}
 use lib.ListN.{length}
@@ -11,7 +11,8 @@ use Rattle.laws.specs.Choice.{if_then_else_, _and_}
 use Rattle.laws.specs.Bytes.{byteAt, room}
 use Rattle.laws.proofs.Cases.{if-true, if-false, if-lt, if-ge, if-le, if-ind, by-test}
 use Rattle.laws.proofs.Rooms.{room-le}
-use Rattle.cmf.specs.Readers.{runOf, textsFrom, allDigits, itemFrom, tagBit, optionsEnd, headRead, headBy}
+use Rattle.cmf.specs.Readers.{runOf, textsFrom, allDigits, itemFrom, tagBit, optionsEnd, headRead, headBy, headAt}
+use Rattle.cmf.specs.Places.{linesFrom, lineFrom}
 use Rattle.cmf.specs.declared.text.Run.{Run}
 use Rattle.cmf.specs.declared.head.Head.{Head}
 
@@ -93,3 +94,32 @@ pub bits-le : (a b : ℕ) → a ≤ 1 → b ≤ 1 → a * b ≤ 1
 bits-le zero b h k = rw zero-mul (omega arith)
 bits-le (suc zero) b h k = rw one-mul k
 bits-le (suc (suc a)) b h k = absurd (omega arith)
+
+-- ---- lines
+
+module _ (im : List ℕ) where
+  pub line-turn : (left p : ℕ) (h : Head) → 0 < left → h ≡ headAt im p → lineFrom im (left - 1) (h .next) ≡ lineFrom im left p
+  unfolding lineFrom
+  line-turn zero p h a e = absurd (omega arith)
+  line-turn (suc n) p h a e = let z : suc n - 1 ≡ n = omega arith in rw (z, e)
+
+  -- how many lines are left when n of the hundred are passed
+  lines-here : (n p : ℕ) (h : Head) → n < 100 → h ≡ headAt im p
+      → length (linesFrom im (100 - n) p) ≡ 1 + length (if h .last then [] else linesFrom im (100 - (n + 1)) (h .next))
+  unfolding linesFrom
+  lines-here n p h a e =
+      let z : 100 - n ≡ suc (100 - (n + 1)) = omega arith in
+      rw (z, e) (omega arith)
+
+  pub count-last : (n p : ℕ) (h : Head) → n < 100 → h ≡ headAt im p → h .last ≡ true → n + length (linesFrom im (100 - n) p) ≡ n + 1
+  unfolding if_then_else_
+  count-last n p h a e l = rw (lines-here n p h a e, l)
+
+  pub count-next : (n p : ℕ) (h : Head) → n < 100 → h ≡ headAt im p → h .last ≡ false
+      → n + length (linesFrom im (100 - n) p) ≡ n + 1 + length (linesFrom im (100 - (n + 1)) (h .next))
+  unfolding if_then_else_
+  count-next n p h a e l = let q = rw l at (lines-here n p h a e) in omega arith
+
+  pub count-done : (n p : ℕ) → 100 ≤ n → n + length (linesFrom im (100 - n) p) ≡ n
+  unfolding linesFrom
+  count-done n p a = let z : 100 - n ≡ 0 = omega arith in rw z (omega arith)

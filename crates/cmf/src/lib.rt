@@ -5,3 +5,4 @@ pub mod head;
 pub mod image;
 pub mod text;
 pub mod title;
+pub mod place;
