@@ -3,6 +3,6 @@
 pub mod component;
 pub mod head;
 pub mod image;
+pub mod place;
 pub mod text;
 pub mod title;
-pub mod place;

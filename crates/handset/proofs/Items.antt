@@ -1,0 +1,171 @@
+-- An option text that is not refused is the item's own bytes, all of them in the image, and the items stand one behind the other:
+-- the place is that of a field of a well-formed image, and section 7 has an option's texts there.
+use Prim.Native.Nat.{ℕ, zero, suc, _+_, _≤_, _<_}
+use mathlib.Core.Path.{_≡_, refl, _∙_}
+use mathlib.Core.Bool.{Bool, true, false≢true}
+use mathlib.Core.List.{List, [], _∷_, map}
+use native.Mathlib.Omega.{arith}
+use lib.ListN.{length}
+use borrow.Author.Tests.{eqb-true, eqb-false, ltb-true, ltb-false}
+use Rattle.laws.specs.Choice.{_and_, _=?_, _<?_}
+use Rattle.laws.specs.Bytes.{byteAt}
+use Rattle.laws.specs.Parts.{partAt}
+use Rattle.laws.proofs.Cases.{if-ind, by-test, if-true, if-lt, if-ge, and-l, and-r}
+use Rattle.laws.proofs.Rooms.{le-room}
+use Rattle.field.specs.declared.record.Field.{Field}
+use Rattle.cmf.specs.Layouts.{Texts, Component}
+use Rattle.cmf.specs.Grammar.{Every, WellFormed}
+use Rattle.cmf.specs.Readers.{itemFrom, componentAt}
+use Rattle.cmf.specs.declared.component.Component as read
+use Rattle.cmf.proofs.Agreement.{fieldsOf}
+use Rattle.cmf.proofs.Agreeing.{agree}
+use Rattle.walk.specs.Check.{entryOf, checked, refusalOf}
+use Rattle.walk.proofs.Acceptance.{accepted-exactly-when-well-formed, counted}
+use Rattle.walk.proofs.Fields.{every-table}
+use Rattle.handset.specs.OptionText.{reached, itemsIn, itemPlace, textRefusal, textBytes, optionText}
+use Rattle.handset.proofs.Finding.{text-some}
+
+-- ---- the statement
+
+-- a text is the item's: all of the item is in the image, and the text is the bytes behind its length byte, as many as that says
+pub record ItemIs (im : List ℕ) (place item : ℕ) (text : List ℕ) : Type 0 where
+  pub inside : itemPlace im place item + 1 + byteAt im (itemPlace im place item) ≤ length im
+  pub bytes : text ≡ partAt (itemPlace im place item + 1) (byteAt im (itemPlace im place item)) im
+
+-- ---- texts one behind the other
+
+module _ (im : List ℕ) where
+  -- behind a text that begins in the image the next ones are counted from its end
+  step : (k at : ℕ) → at < length im → itemFrom im (suc k) at ≡ itemFrom im k (at + 1 + byteAt im at)
+  unfolding itemFrom
+  step k at h = if-lt at (length im) _ _ h
+
+  -- of texts of the grammar each is in the image
+  texts-stand :
+      {n at end longest : ℕ} → Texts im n at end longest → (k : ℕ) → k < n →
+      itemFrom im k at + 1 + byteAt im (itemFrom im k at) ≤ length im
+  unfolding itemFrom
+  texts-stand Texts.none k h = absurd (omega arith)
+  texts-stand (Texts.more mid t ts) zero h = omega (arith, t .ends, t .inside)
+  texts-stand {at = at} (Texts.more mid t ts) (suc k) h =
+      rw (step k at (omega (arith, t .ends, t .inside)), ← t .ends) (texts-stand ts k (omega arith))
+
+  -- behind a text that is all in the image stands the next
+  texts-turn :
+      (k at : ℕ) → itemFrom im k at + 1 + byteAt im (itemFrom im k at) ≤ length im →
+      itemFrom im (suc k) at ≡ itemFrom im k at + 1 + byteAt im (itemFrom im k at)
+  unfolding itemFrom
+  texts-turn zero at h = if-lt at (length im) _ _ (omega arith)
+  texts-turn (suc k) at h =
+      by-test (at <? length im)
+      (λ e. let s = step k at (ltb-true at (length im) e) in
+      step (suc k) at (ltb-true at (length im) e) ∙ rw s (texts-turn k (at + 1 + byteAt im at) (rw s at h)))
+      (λ e. let s : itemFrom im (suc k) at ≡ at = if-ge at (length im) _ _ (ltb-false at (length im) e) in
+      absurd (omega (arith, rw s at h, ltb-false at (length im) e)))
+
+-- ---- the items of a field
+
+-- a component whose fields are one has that field
+field-of : (c : read.Component) (f : Field) → fieldsOf c ≡ f ∷ [] → c .field ≡ f
+field-of c f =
+    if-ind (λ (l : List Field). l ≡ f ∷ [] → c .field ≡ f) (c .holds) (λ _ e. cc)
+    (λ _ e. let z : _≡_ {A = ℕ} 0 1 = cc in absurd (omega arith))
+
+-- all items of the component at a place are in the image
+record Stands (im : List ℕ) (place : ℕ) : Type 0 where
+  stands :
+      (item : ℕ) → item < itemsIn (componentAt im place .field .kind) →
+      itemPlace im place item + 1 + byteAt im (itemPlace im place item) ≤ length im
+
+-- and so at the place of each of some fields
+abbrev AllStand : List ℕ → List Field → Type 0
+AllStand im fs = Every (λ (f : Field). Stands im (f .image .0)) fs
+
+-- a field that is no option has no items
+none-stand : (im : List ℕ) (end : ℕ) (f : Field) → itemsIn (f .kind) ≡ 0 → Component im (f .image .0) end (f ∷ []) → AllStand im (f ∷ [])
+none-stand im end f z c =
+    let k = field-of (componentAt im (f .image .0)) f (agree im .component-is c .fields) in
+    Every.add {f = f} (record { stands = λ item h. absurd (omega (arith, rw (k, z) at h)) }) Every.none
+
+-- an option's items are texts of the grammar, and no other component has items
+component-stands : (im : List ℕ) (at end : ℕ) (fs : List Field) → Component im at end fs → AllStand im fs
+unfolding itemsIn
+component-stands im at end fs (Component.integer c l g) = none-stand im end _ refl (Component.integer c l g)
+component-stands im at end fs (Component.counter c l g) = none-stand im end _ refl (Component.counter c l g)
+component-stands im at end fs (Component.time-long c l g) = none-stand im end _ refl (Component.time-long c l g)
+component-stands im at end fs (Component.time-short c l g) = none-stand im end _ refl (Component.time-short c l g)
+component-stands im at end fs (Component.date-long c l g) = none-stand im end _ refl (Component.date-long c l g)
+component-stands im at end fs (Component.date-short c l g) = none-stand im end _ refl (Component.date-short c l g)
+component-stands im at end fs (Component.switch c l g) = none-stand im end _ refl (Component.switch c l g)
+component-stands im at end fs (Component.option c l g) =
+    let k = field-of (componentAt im at) _ (agree im .component-is (Component.option c l g) .fields) in
+    Every.add (record { stands = λ item h. texts-stand im (l .items) item (rw k at h) }) Every.none
+component-stands im at end fs (Component.constant c b x) = Every.none
+component-stands im at end fs (Component.trigger c l) = none-stand im end _ refl (Component.trigger c l)
+
+-- a place that was reached is that of a field, so its items are in the image
+reached-stands :
+    (im : List ℕ) (place : ℕ) {fs : List Field} → AllStand im fs → reached place (map entryOf fs) ≡ true → Stands im place
+unfolding reached
+reached-stands im place Every.none h = absurd (false≢true h)
+reached-stands im place (Every.add {f = f} p ps) h =
+    if-ind (λ (b : Bool). b ≡ true → Stands im place) (f .image .0 =? place)
+    (λ e _. rw (eqb-true (f .image .0) place e) at p) (λ _ g. reached-stands im place ps g) h
+
+-- ---- the call
+
+-- what is known of a call that is not refused
+record Granted (im : List ℕ) (sheet place item : ℕ) : Type 0 where
+  accepted : refusalOf im sheet ≡ 0
+  found : reached place (checked im sheet .fields) ≡ true
+  one : item < itemsIn (componentAt im place .field .kind)
+
+-- a refusal of 0 has passed every test
+granted : (im : List ℕ) (sheet place item : ℕ) → textRefusal im sheet place item ≡ 0 → Granted im sheet place item
+unfolding textRefusal
+granted im sheet place item =
+    if-ind P (refusalOf im sheet =? 0)
+    (λ a. if-ind P (reached place (checked im sheet .fields) and (item <? itemsIn (componentAt im place .field .kind)))
+    (λ b _. record {
+      accepted = eqb-true (refusalOf im sheet) 0 a;
+      found = and-l _ _ b;
+      one = ltb-true item (itemsIn (componentAt im place .field .kind)) (and-r _ _ b);
+    })
+    (λ _ z. absurd (omega arith)))
+    (λ a z. absurd (omega (arith, eqb-false (refusalOf im sheet) 0 a)))
+  where
+    P : ℕ → Type 0
+    P k = k ≡ 0 → Granted im sheet place item
+
+-- the text at a place, where it is all in the image
+text-is : (im : List ℕ) (at : ℕ) → at + 1 + byteAt im at ≤ length im → textBytes im at ≡ partAt (at + 1) (byteAt im at) im
+unfolding textBytes
+text-is im at h = if-true _ _ (le-room (length im) at (1 + byteAt im at) (omega arith))
+
+-- whenever the call is not refused the answer is the item's own bytes, all of them in the image
+pub item-is : (im : List ℕ) (sheet place item : ℕ) → textRefusal im sheet place item ≡ 0 → ItemIs im place item (optionText im sheet place item)
+item-is im sheet place item z =
+    record { inside = h; bytes = text-some im sheet place item z ∙ text-is im (itemPlace im place item) h }
+  where
+    g : Granted im sheet place item
+    g = granted im sheet place item z
+
+    w : WellFormed im sheet
+    w = accepted-exactly-when-well-formed im sheet .0 (g .accepted)
+
+    all : AllStand im (w .fields)
+    all = every-table im _ (component-stands im) _ _ _ _ (w .table)
+
+    h : itemPlace im place item + 1 + byteAt im (itemPlace im place item) ≤ length im
+    h = reached-stands im place all (rw (counted im sheet w .index) at (g .found)) .stands item (g .one)
+
+-- the first item stands behind the ten bytes of 7.5.21
+pub first-item : (im : List ℕ) (place : ℕ) → itemPlace im place 0 ≡ place + 10
+unfolding itemFrom
+first-item im place = refl
+
+-- and behind each item that is all in the image stands the next
+pub items-in-turn :
+    (im : List ℕ) (place item : ℕ) → itemPlace im place item + 1 + byteAt im (itemPlace im place item) ≤ length im →
+    itemPlace im place (item + 1) ≡ itemPlace im place item + 1 + byteAt im (itemPlace im place item)
+items-in-turn im place item h = let z : item + 1 ≡ suc item = omega arith in rw z (texts-turn im item (place + 10) h)
