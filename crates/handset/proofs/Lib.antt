@@ -1,2 +1,4 @@
 pub mod Finding
 pub mod Items
+pub mod Opening
+pub mod Defaults

@@ -1,2 +1,3 @@
 // The public calls of the menu executor.
+pub mod open;
 pub mod option;

@@ -1,0 +1,99 @@
+-- One turn of each loop of `fits`, over variables, so that a loop's proof cites one line.
+use Prim.Native.Nat.{ℕ, zero, suc, _+_, _-_, _≤_, _<_}
+use mathlib.Core.Path.{_≡_, refl, sym, ap, _∙_}
+use mathlib.Core.Bool.{Bool, true, false}
+use mathlib.Core.List.{List, [], _∷_}
+use native.Mathlib.Omega.{arith}
+use lib.ListN.{length, getD, take, drop, length-take, drop-of-length-le}
+use lib.Seq.{drop-cons, getD-take}
+use borrow.Author.Tests.{le-leb, lt-leb}
+use native.Mathlib.Decide.{ℕ-discrete}
+use Rattle.laws.specs.Choice.{if_then_else_, _and_, _≤?_}
+use Rattle.laws.proofs.Cases.{if-eq, if-ne, if-true, if-false, and-true, and-false, and-i}
+use Rattle.cmf.specs.Readers.{componentAt}
+use Rattle.cmf.specs.Places.{componentsFrom}
+use Rattle.cmf.specs.declared.component.Component.{Component}
+use Rattle.cmf.specs.declared.head.Head.{Head}
+use Rattle.session.specs.Session.{noLevel}
+use Rattle.session.specs.Fits.{levelFits, levelsFit, cursorHead, among, digitsTo}
+use Rattle.session.specs.declared.session.Level.{Level}
+
+and-none : (t : Bool) → t and false ≡ false
+unfolding _and_
+and-none true = refl
+and-none false = refl
+
+-- ---- levels
+
+module _ (im : List ℕ) (lines t : ℕ) (ls : List Level) (i n : ℕ) (here : Level) where
+  abbrev rest : Bool
+  rest = levelsFit im lines t (drop i (take n ls)) here
+
+  next : i < n → n ≤ length ls → drop i (take n ls) ≡ getD ls i noLevel ∷ drop (suc i) (take n ls)
+  next h l =
+      drop-cons (take n ls) i noLevel (omega (arith, length-take n ls))
+      ∙ ap (λ (x : Level). x ∷ drop (suc i) (take n ls)) (getD-take n ls i noLevel h)
+
+  pub level-bad : i < n → n ≤ length ls → levelFits im lines t (getD ls i noLevel) ≡ false → rest ≡ false
+  unfolding levelsFit
+  level-bad h l b = rw (next h l) (and-false _ b)
+
+  pub level-plain : (k : Head) → i < n → n ≤ length ls → levelFits im lines t (getD ls i noLevel) ≡ true → k ≡ cursorHead im (getD ls i noLevel)
+      → k .submenu ≡ false → rest ≡ false
+  unfolding levelsFit
+  level-plain k h l b e s = rw (next h l) (and-true _ b ∙ and-false _ (ap (λ (j : Head). j .submenu) (sym e) ∙ s))
+
+  pub level-next : (k : Head) → i < n → n ≤ length ls → levelFits im lines t (getD ls i noLevel) ≡ true → k ≡ cursorHead im (getD ls i noLevel)
+      → k .submenu ≡ true → levelsFit im lines (k .table) (drop (i + 1) (take n ls)) here ≡ rest
+  unfolding levelsFit
+  level-next k h l b e s =
+      let z : i + 1 ≡ suc i = omega arith in
+      rw (next h l, z, e) (sym (and-true _ b ∙ and-true _ (ap (λ (j : Head). j .submenu) (sym e) ∙ s)))
+
+  pub level-last : n ≤ i → rest ≡ levelFits im lines t here
+  unfolding levelsFit
+  level-last h = rw (drop-of-length-le (take n ls) {i = i} (omega (arith, length-take n ls)))
+
+-- ---- components of a line
+
+module _ (im : List ℕ) (p : ℕ) where
+  pub among-here : (left c : ℕ) → 0 < left → c ≡ p → among p (componentsFrom im left c) ≡ true
+  unfolding among componentsFrom
+  among-here zero c h e = absurd (omega arith)
+  among-here (suc n) c h e = if-eq c p _ _ e
+
+  among-one : (left c : ℕ) (k : Component) → 0 < left → (c ≡ p → ⊥) → k ≡ componentAt im c
+      → among p (componentsFrom im left c) ≡ among p (if k .last then [] else componentsFrom im (left - 1) (k .next))
+  unfolding among componentsFrom
+  among-one zero c k h n e = absurd (omega arith)
+  among-one (suc m) c k h n e = let z : suc m - 1 ≡ m = omega arith in if-ne c p _ _ n ∙ rw (z, e)
+
+  pub among-last : (left c : ℕ) (k : Component) → 0 < left → (c ≡ p → ⊥) → k ≡ componentAt im c → k .last ≡ true
+      → among p (componentsFrom im left c) ≡ false
+  unfolding among if_then_else_
+  among-last left c k h n e l = among-one left c k h n e ∙ rw l
+
+  pub among-next : (left c : ℕ) (k : Component) → 0 < left → (c ≡ p → ⊥) → k ≡ componentAt im c → k .last ≡ false
+      → among p (componentsFrom im (left - 1) (k .next)) ≡ among p (componentsFrom im left c)
+  unfolding if_then_else_
+  among-next left c k h n e l = sym (among-one left c k h n e ∙ rw l)
+
+  pub among-done : (left c : ℕ) → left ≤ 0 → among p (componentsFrom im left c) ≡ false
+  unfolding among componentsFrom
+  among-done left c h = let z : left ≡ 0 = omega arith in rw z
+
+-- ---- digits typed
+
+module _ (ds : List ℕ) where
+  pub digits-next : (i : ℕ) → digitsTo ds i ≡ true → getD ds i 0 ≤ 9 → digitsTo ds (i + 1) ≡ true
+  unfolding digitsTo
+  digits-next i h d = let z : i + 1 ≡ suc i = omega arith in rw z (and-i h (le-leb (getD ds i 0) 9 d))
+
+  pub digits-bad : (i n : ℕ) → i < n → 9 < getD ds i 0 → digitsTo ds n ≡ false
+  unfolding digitsTo
+  digits-bad i zero h d = absurd (omega arith)
+  digits-bad i (suc n) h d = go (ℕ-discrete i n) (λ l. digits-bad i n l d)
+    where
+      go : Dec (i ≡ n) → (i < n → digitsTo ds n ≡ false) → digitsTo ds n and (getD ds n 0 ≤? 9) ≡ false
+      go (yes q) below = rw (lt-leb (getD ds n 0) 9 (rw q at d)) (and-none (digitsTo ds n))
+      go (no q) below = and-false _ (below (omega arith))

@@ -1,0 +1,231 @@
+// Whether a session fits an image: clause by clause as the paper lists them.
+ghost use mathlib.Core.Path.{_≡_};
+ghost use Prim.Native.Nat.{_-_};
+ghost use lib.ListN.{getD};
+ghost use Rattle.cmf.specs.Places.{componentsOf};
+ghost use Rattle.session.specs.Session.{noLevel};
+ghost use Rattle.session.specs.Fits.{shapeFits, cursorLine, cursorHead, levelFits, tablesFit, among, workFits, visitFits, digitsTo, entryFits, modeFits, sessionFits};
+use crate::session::Level;
+use crate::session::Mode;
+use crate::session::Session;
+use cmf::component::read_component;
+use cmf::head::Head;
+use cmf::head::read_head;
+use cmf::image::Image;
+use cmf::place::line_at;
+use cmf::place::line_count;
+use field::kind::ImagePlace;
+use field::kind::Kind;
+use field::table::profile_of;
+use field::work::Work;
+use laws::byte_at;
+
+// Whether a display has a shape that the paper allows.
+pub fn shape_fits(columns: u8, lines: u8) -> bool
+    ensures { λ r. ⌜ r ≡ shapeFits columns lines ⌝ }
+{
+    if columns < Session::MIN_COLUMNS {
+        return false;
+    }
+    if Session::MAX_COLUMNS < columns {
+        return false;
+    }
+    if lines < Session::MIN_ROWS {
+        return false;
+    }
+    lines <= Session::MAX_ROWS
+}
+
+// One less, or 0.
+fn less_one(lines: u8) -> usize
+    ensures { λ r. ⌜ r ≡ lines - 1 ⌝ }
+{
+    if lines == 0 {
+        return 0;
+    }
+    (lines - 1) as usize
+}
+
+impl Level {
+    // The place of the cursor line.
+    pub fn cursor_line(self, image: &[u8]) -> usize
+        ensures { λ r. ⌜ r ≡ cursorLine (now (image .entry)) self ⌝ }
+    {
+        line_at(image, self.table.0, self.cursor as usize)
+    }
+
+    // The head of the cursor line.
+    pub fn cursor_head(self, image: &[u8]) -> Head
+        ensures { λ r. ⌜ r ≡ cursorHead (now (image .entry)) self ⌝ }
+    {
+        read_head(image, self.cursor_line(image))
+    }
+
+    // Whether it shows the table at a place.
+    fn fits(self, image: &[u8], lines: u8, table: usize) -> bool
+        ensures { λ r. ⌜ r ≡ levelFits (now (image .entry)) lines table self ⌝ }
+    {
+        if self.table.0 != table {
+            return false;
+        }
+        let count = line_count(image, table);
+        let cursor = self.cursor as usize;
+        let first = self.first as usize;
+        let shown = less_one(lines);
+        if count <= cursor {
+            return false;
+        }
+        if cursor < first {
+            return false;
+        }
+        cursor < first + shown
+    }
+}
+
+// Whether a place is that of a component of a line.
+fn is_on_line(image: &[u8], line: usize, place: usize) -> bool
+    ensures { λ r. ⌜ r ≡ among place (componentsOf (now (image .entry)) line) ⌝ }
+{
+    let h = read_head(image, line);
+    let mut c = h.component;
+    let mut left = image.len() + 1;
+    while 0 < left {
+        if c == place {
+            return true;
+        }
+        let k = read_component(image, c);
+        if k.last {
+            return false;
+        }
+        c = k.next;
+        left = left - 1;
+    }
+    false
+}
+
+// Whether a working copy has a chosen cell of its kind, and legal cells.
+fn work_fits(kind: Kind, work: Work) -> bool
+    ensures { λ r. ⌜ r ≡ workFits kind work ⌝ }
+{
+    let p = profile_of(kind);
+    if work.at < p.cells {
+        return work.legal(kind);
+    }
+    false
+}
+
+impl Session {
+    // The level k tables below the top, of those above the shown one.
+    pub fn above_at(self, k: usize) -> Level
+        ensures { λ r. ⌜ r ≡ getD (self .above) k noLevel ⌝ }
+    {
+        if k < 7 {
+            return self.above[k];
+        }
+        Level {
+            table: ImagePlace(0),
+            cursor: 0,
+            first: 0,
+        }
+    }
+
+    fn tables_fit(self, image: &[u8]) -> bool
+        ensures { λ r. ⌜ r ≡ tablesFit (now (image .entry)) self ⌝ }
+    {
+        let count = self.outer as usize;
+        if Image::MAX_DEPTH <= count {
+            return false;
+        }
+        let mut t = Image::PROLOG;
+        let mut i = 0;
+        while i < count {
+            let l = self.above_at(i);
+            let ok = l.fits(image, self.lines, t);
+            if !ok {
+                return false;
+            }
+            let h = l.cursor_head(image);
+            if !h.submenu {
+                return false;
+            }
+            t = h.table;
+            i = i + 1;
+        }
+        self.here.fits(image, self.lines, t)
+    }
+
+    fn visit_fits(self, image: &[u8], place: usize) -> bool
+        ensures { λ r. ⌜ r ≡ visitFits (now (image .entry)) self place ⌝ }
+    {
+        let line = self.here.cursor_line(image);
+        let on_line = is_on_line(image, line, place);
+        if !on_line {
+            return false;
+        }
+        let c = read_component(image, place);
+        if !c.holds {
+            return false;
+        }
+        if !c.editable {
+            return false;
+        }
+        let field = c.field;
+        let kind = field.kind;
+        work_fits(kind, self.work)
+    }
+
+    // Whether the first n numbers typed are digits.
+    fn digits_to(self, n: u8) -> bool
+        ensures { λ r. ⌜ r ≡ digitsTo (self .typed) n ⌝ }
+    {
+        let typed = self.typed;
+        let count = n as usize;
+        let mut i = 0;
+        while i < count {
+            if 9 < byte_at(&typed, i) {
+                return false;
+            }
+            i = i + 1;
+        }
+        true
+    }
+
+    fn entry_fits(self, image: &[u8], n: u8) -> bool
+        ensures { λ r. ⌜ r ≡ entryFits (now (image .entry)) self n ⌝ }
+    {
+        let h = self.here.cursor_head(image);
+        if !h.protected {
+            return false;
+        }
+        if n < byte_at(image, h.password) {
+            return self.digits_to(n);
+        }
+        false
+    }
+
+    fn mode_fits(self, image: &[u8]) -> bool
+        ensures { λ r. ⌜ r ≡ modeFits (now (image .entry)) self (self .mode) ⌝ }
+    {
+        let mode = self.mode;
+        match mode {
+            Mode::Browsing => true,
+            Mode::Visit(p) => self.visit_fits(image, p.0),
+            Mode::Password(n) => self.entry_fits(image, n),
+        }
+    }
+
+    // Whether the session fits an image.
+    pub fn fits(self, image: &[u8]) -> bool
+        ensures { λ r. ⌜ r ≡ sessionFits (now (image .entry)) self ⌝ }
+    {
+        let shape = shape_fits(self.columns, self.lines);
+        if !shape {
+            return false;
+        }
+        let tables = self.tables_fit(image);
+        if !tables {
+            return false;
+        }
+        self.mode_fits(image)
+    }
+}

@@ -1,0 +1,96 @@
+// The session's record, the event numbers, and the closed session.
+ghost use mathlib.Core.Path.{_≡_};
+ghost use Rattle.session.specs.Session.{noLevel, blank, closed, opened};
+use cmf::image::Image;
+use field::kind::ImagePlace;
+use field::work::Work;
+
+// A table that is open, with its cursor line and first shown line, from 0.
+pub struct Level {
+    pub table: ImagePlace,
+    pub cursor: u8,
+    pub first: u8,
+}
+
+// Browsing; in a visit of the component at a place; in the entry of a password with so many digits typed.
+pub enum Mode {
+    Browsing,
+    Visit(ImagePlace),
+    Password(u8),
+}
+
+// columns, lines: of the display. outer: how many tables are open above the shown one, `above` those from the top, `here` the shown one.
+// idle: seconds without a key. work: the working copy of a visit. typed: the digits typed in a password entry.
+pub struct Session {
+    pub columns: u8,
+    pub lines: u8,
+    pub outer: u8,
+    pub above: [Level; 7],
+    pub here: Level,
+    pub idle: u8,
+    pub mode: Mode,
+    pub work: Work,
+    pub typed: [u8; 8],
+}
+
+impl Session {
+    // Events 0 to 9 are the digits.
+    pub const POINT: u8 = 10;
+
+    pub const UP: u8 = 11;
+
+    pub const DOWN: u8 = 12;
+
+    pub const LEFT: u8 = 13;
+
+    pub const RIGHT: u8 = 14;
+
+    pub const ENTER: u8 = 15;
+
+    pub const SECOND: u8 = 16;
+
+    pub const MIN_COLUMNS: u8 = 14;
+
+    pub const MAX_COLUMNS: u8 = 20;
+
+    pub const MIN_ROWS: u8 = 2;
+
+    pub const MAX_ROWS: u8 = 4;
+
+    // The top table at its first line, browsing.
+    pub fn opened(columns: u8, lines: u8) -> Self
+        ensures { λ r. ⌜ r ≡ opened columns lines ⌝ }
+    {
+        let top = Level {
+            table: ImagePlace(Image::PROLOG),
+            cursor: 0,
+            first: 0,
+        };
+        let none = Level {
+            table: ImagePlace(0),
+            cursor: 0,
+            first: 0,
+        };
+        Session {
+            columns,
+            lines,
+            outer: 0,
+            above: [none, none, none, none, none, none, none],
+            here: top,
+            idle: 0,
+            mode: Mode::Browsing,
+            work: Work {
+                cells: [0; 32],
+                at: 0,
+            },
+            typed: [0, 0, 0, 0, 0, 0, 0, 0],
+        }
+    }
+
+    // A session that never fits: its display has no columns.
+    pub fn closed() -> Self
+        ensures { λ r. ⌜ r ≡ closed ⌝ }
+    {
+        Session::opened(0, 0)
+    }
+}
