@@ -2,8 +2,9 @@
 """Cases for the check of CMF 0.4 menu images: each has a name, an image, a sheet length and, written by hand beside the
 name, the refusal number that the papers give (0: accepted).  `python3 cases.py FOLDER` writes FOLDER/stdin and /stdout.
 
-stdin: for each case op (1 check, 2 option text), name length, name, then two bytes each (low first) of image length,
-sheet length, place, item, then the image.  stdout: 'NAME: REFUSAL', for op 2 'NAME: REFUSAL HEX'.
+stdin: for each case op (1 check, 2 option text, 3 open), name length, name, then two bytes each (low first) of image length,
+sheet length, place, item, then the image.  stdout: 'NAME: REFUSAL', for op 2 'NAME: REFUSAL HEX',
+for op 3 'NAME: REFUSAL COLUMNSxLINES HEX' with the session's display and the sheet afterwards.
 R1 to R20 are the readings of the papers that a case rests on."""
 import sys
 from pathlib import Path
@@ -440,6 +441,25 @@ for name, no, img in (('fault behind the option', 7, one(option(b'a'), b'\x18'))
                       ('fault in a submenu', 9, chain([line(option(b'a'), sub=1)], [line(BAD9)])),
                       ('fields overlap', 11, one(option(b'a'), B(0))), ('refused before no such option', 8, deep(9))):
     texts(img, (name, no, 14, 0))
+
+# ---- Open: refusal, the session's columns and lines (0x0: closed), and the sheet, which held EE in every byte ----------
+def opens(name, refusal, img, shape, after):
+    columns, lines = shape
+    kept = f'{columns}x{lines}' if refusal == 0 else '0x0'
+    check('open, ' + name, refusal, img, sheet=len(after), op=3, place=columns, item=lines, answer=f' {kept} {after.hex()}')
+EVERY = one(num(1, 200, at=1), num(7, 0x1234, at=2), counter(-5, 100, 10, 98, 3, at=4), time(23, 59, 58, at=6), time(7, 8, at=9),
+            date(2026, 11, 15, at=11), date(99, 12, 31, at=15, short=True), switch(9, 0x105, at=18), trigger(),
+            option(b'no', b'yes', default=1, at=22), num(3, 0xFB, at=23))
+DEFAULTS = bytes.fromhex('ee c8 3412 6200 173b3a 0708 0f0bea07 1f0c63 05010000 01 fb eeee')
+for shape in (14, 2), (16, 4), (20, 4), (20, 2):
+    opens(f'every kind at {shape[0]} x {shape[1]}', 0, EVERY, shape, DEFAULTS)
+for shape in (13, 4), (21, 4), (16, 1), (16, 5), (0, 0), (255, 255):
+    opens(f'shape {shape[0]} x {shape[1]}', 1, EVERY, shape, b'\xee' * 26)
+opens('field past the sheet', 10, EVERY, (16, 4), b'\xee' * 23)
+opens('bad shape before bad image', 1, EVERY[:9], (16, 5), b'\xee' * 4)
+opens('bad image', 2, EVERY[:9], (16, 4), b'\xee' * 4)
+opens('no fields', 0, one(X), (16, 4), b'\xee' * 3)
+opens('field on a submenu', 0, chain([line(option(b'a', b'b', default=1, at=2), sub=1)], [line(num(0, 42, at=0))]), (16, 4), bytes.fromhex('2aee01'))
 
 if __name__ == '__main__':
     folder = Path(sys.argv[1])

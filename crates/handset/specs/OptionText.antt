@@ -27,7 +27,7 @@ itemsIn (Switch n) = 0
 itemsIn (Option n w) = n
 itemsIn Trigger = 0
 
--- where the text of an option's item stands: its texts begin behind the ten bytes of 7.5.21
+-- where the text of an option's item stands: its texts begin behind ten bytes (7.5.21 with R1's var-addr)
 abbrev pub itemPlace : List ℕ → ℕ → ℕ → ℕ
 itemPlace im place item = itemFrom im item (place + 10)
 

@@ -1,4 +1,4 @@
--- 01, A session fits when: one definition for each clause, in the paper's order. Nothing more is asked.
+-- 01, A session fits when: one definition for each clause, in the paper's order; the idle count needs none, since it is a byte. Nothing more is asked.
 use Prim.Native.Nat.{ℕ, zero, suc, _+_, _-_}
 use mathlib.Core.Bool.{Bool, true, false}
 use mathlib.Core.List.{List, [], _∷_}
@@ -63,9 +63,9 @@ unfoldable pub among : ℕ → List ℕ → Bool
 among p [] = false
 among p (q ∷ qs) = if q =? p then true else among p qs
 
--- the working copy of a visit has a chosen cell or part of the field, and legal cells
+-- the working copy of a visit has a chosen cell or part of the field, and legal cells; a trigger has no value, so nothing is asked of its cells
 unfoldable pub workFits : Kind → Work → Bool
-workFits k w = (w .at <? profileOf k .cells) and legal k (w .cells)
+workFits k w = (w .at <? profileOf k .cells) and (if profileOf k .fires then true else legal k (w .cells))
 
 -- an open visit is of an editable field or trigger on the cursor line
 unfoldable pub visitFits : List ℕ → Session → ℕ → Bool
@@ -84,7 +84,7 @@ entryFits im s n =
     cursorHead im (s .here) .protected
     and ((n <? byteAt im (cursorHead im (s .here) .password)) and digitsTo (s .typed) n)
 
--- what the session is doing
+-- browsing asks nothing more; a visit and a password entry ask their own clause
 unfoldable pub modeFits : List ℕ → Session → Mode → Bool
 modeFits im s mode.Browsing = true
 modeFits im s (mode.Visit p) = visitFits im s (p .0)

@@ -14,11 +14,11 @@ level t c f = record { table = record { 0 = t }; cursor = c; first = f }
 abbrev pub noLevel : Level
 noLevel = level 0 0 0
 
--- no visit
+-- the working copy while there is no visit; fits does not look at it
 abbrev pub blank : Work
 blank = record { cells = replicate 32 0; at = 0 }
 
--- 01, The four calls: top table at line 1, browsing, idle count 0
+-- 01, The four calls: top table at line 1 (cursor 0 here), browsing, idle count 0
 unfoldable pub opened : ℕ → ℕ → Session
 opened columns lines = record {
   columns = columns;

@@ -103,12 +103,15 @@ fn is_on_line(image: &[u8], line: usize, place: usize) -> bool
     false
 }
 
-// Whether a working copy has a chosen cell of its kind, and legal cells.
+// Whether a working copy has a chosen cell of its kind, and legal cells; nothing is asked of a trigger's.
 fn work_fits(kind: Kind, work: Work) -> bool
     ensures { λ r. ⌜ r ≡ workFits kind work ⌝ }
 {
     let p = profile_of(kind);
     if work.at < p.cells {
+        if p.fires {
+            return true;
+        }
         return work.legal(kind);
     }
     false

@@ -20,7 +20,7 @@ pub enum Mode {
 }
 
 // columns, lines: of the display. outer: how many tables are open above the shown one, `above` those from the top, `here` the shown one.
-// idle: seconds without a key. work: the working copy of a visit. typed: the digits typed in a password entry.
+// idle: the idle count, seconds since the last key that were not in a visit. work: the working copy of a visit. typed: the digits typed in a password entry.
 pub struct Session {
     pub columns: u8,
     pub lines: u8,

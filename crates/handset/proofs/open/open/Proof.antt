@@ -5,7 +5,6 @@ use Rattle.handset.proofs.Opening.{bad-shape, bad-image, accepted}
 use borrow.Author.Needs.{needs}
 use Rattle.handset.proofs.open.open.Statement.{statement}
 use Rattle.handset.proofs.open.open.Tie as tie
-use Rattle.handset.proofs.open.open.Lts as lts
 
 shape-fits-requires : tie.Need-shape-fits-requires
 shape-fits-requires c κs = search needs
