@@ -6,12 +6,12 @@ use mathlib.Core.List.{List, [], _∷_}
 use native.Mathlib.Omega.{arith}
 use lib.ListN.{length, getD, take, drop, length-take, drop-of-length-le}
 use lib.Seq.{drop-cons, getD-take}
-use borrow.Author.Tests.{le-leb, lt-leb}
+use borrow.Author.Tests.{le-leb, lt-leb, lt-ltb, eq-eqb}
 use native.Mathlib.Decide.{ℕ-discrete}
-use Rattle.laws.specs.Choice.{if_then_else_, _and_, _≤?_}
+use Rattle.laws.specs.Choice.{if_then_else_, _and_, _≤?_, _<?_}
 use Rattle.laws.proofs.Cases.{if-eq, if-ne, if-true, if-false, and-true, and-false, and-i}
 use Rattle.cmf.specs.Readers.{componentAt}
-use Rattle.cmf.specs.Places.{componentsFrom}
+use Rattle.cmf.specs.Places.{componentsFrom, lineCount}
 use Rattle.cmf.specs.declared.component.Component.{Component}
 use Rattle.cmf.specs.declared.head.Head.{Head}
 use Rattle.session.specs.Session.{noLevel}
@@ -24,6 +24,14 @@ and-none true = refl
 and-none false = refl
 
 -- ---- levels
+
+-- where table and cursor line are right and the first shown line is not below the cursor, the last clause decides
+pub level-within : (im : List ℕ) (lines t : ℕ) (l : Level) (count shown : ℕ) → l .table .0 ≡ t → count ≡ lineCount im t → shown ≡ lines - 1
+    → l .cursor < count → l .first ≤ l .cursor → (l .cursor <? l .first + shown) ≡ levelFits im lines t l
+unfolding levelFits
+level-within im lines t l count shown e n m c f =
+    rw m
+    (sym (and-true _ (eq-eqb (l .table .0) t e) ∙ and-true _ (lt-ltb (l .cursor) (lineCount im t) (rw n at c)) ∙ and-true _ (le-leb (l .first) (l .cursor) f)))
 
 module _ (im : List ℕ) (lines t : ℕ) (ls : List Level) (i n : ℕ) (here : Level) where
   abbrev rest : Bool

@@ -1,15 +1,11 @@
+-- The loop: as many lines from here on as are left lead to the line that was asked for.
 use native.Mathlib.Omega.{arith}
-use Prim.Native.Nat.{ℕ, _+_, _-_, _*_, _^_, _<_, _≤_}
-use mathlib.Core.Path.{_≡_, refl, sym, _∙_}
+use mathlib.Core.Path.{_≡_, refl, _∙_}
 use Rattle.cmf.specs.Places.{lineFrom, lineAt}
 use Rattle.cmf.proofs.Turning.{line-turn}
 use borrow.Author.Needs.{needs}
 use Rattle.cmf.proofs.place.line_at.Statement.{statement}
 use Rattle.cmf.proofs.place.line_at.Tie as tie
-use Rattle.cmf.proofs.place.line_at.Reads as reads
-use Rattle.cmf.proofs.place.line_at.Lts as lts
-use Rattle.cmf.proofs.head.read_head.Reads as read-head-reads
-use Rattle.cmf.proofs.title.read_title.Reads as read-title-reads
 
 abbrev Inv-loop : tie.InvT-loop
 Inv-loop image table k p₀ left₀ p left = lineFrom image left p ≡ lineFrom image left₀ p₀
@@ -17,31 +13,24 @@ Inv-loop image table k p₀ left₀ p left = lineFrom image left p ≡ lineFrom 
 abbrev μ-loop : tie.MeasureT-loop
 μ-loop image table k p₀ left₀ p left = left
 
--- src/place.rt:12:9
 read-title-requires : tie.Need-read-title-requires Inv-loop μ-loop
 read-title-requires c κs = search needs
 
--- src/place.rt:15:5
 loop-holds : tie.Need-loop-holds Inv-loop μ-loop
 loop-holds c = refl
 
--- src/place.rt:16:13
 read-head-requires : tie.Need-read-head-requires Inv-loop μ-loop
 read-head-requires c κs = search needs
 
--- src/place.rt:18:16
 sub-left : tie.Need-sub-left Inv-loop μ-loop
 sub-left c = omega arith
 
--- src/place.rt:15:5
 loop-less : tie.Need-loop-less Inv-loop μ-loop
 loop-less c = omega arith
 
--- src/place.rt:15:5
 loop-again : tie.Need-loop-again Inv-loop μ-loop
 loop-again c = line-turn (c .before .before .before .before .before .args .image .now) (c .before .before .loop .left) (c .before .before .loop .p) (c .read-head .result) (c .before .loop-test .taken) (c .read-head .ensures) ∙ c .before .before .loop .inv
 
--- src/place.rt:9:1
 returns : tie.Need-returns Inv-loop μ-loop
 unfolding lineFrom lineAt
 returns c = let z : c .before .loop .left ≡ 0 = omega arith in rw z at (c .before .loop .inv) ∙ rw (c .before .before .read-title .ensures)

@@ -1,16 +1,13 @@
+-- The loop: the lines counted and those from here on are all of the table.
 use native.Mathlib.Omega.{arith}
-use Prim.Native.Nat.{ℕ, _+_, _-_, _*_, _^_, _<_, _≤_}
-use mathlib.Core.Path.{_≡_, refl, sym, _∙_}
+use Prim.Native.Nat.{ℕ, _+_, _-_}
+use mathlib.Core.Path.{_≡_, sym, _∙_}
 use lib.ListN.{length}
 use Rattle.cmf.specs.Places.{linesFrom, linesOf, lineCount}
 use Rattle.cmf.proofs.Turning.{count-last, count-next, count-done}
 use borrow.Author.Needs.{needs}
 use Rattle.cmf.proofs.place.line_count.Statement.{statement}
 use Rattle.cmf.proofs.place.line_count.Tie as tie
-use Rattle.cmf.proofs.place.line_count.Reads as reads
-use Rattle.cmf.proofs.place.line_count.Lts as lts
-use Rattle.cmf.proofs.head.read_head.Reads as read-head-reads
-use Rattle.cmf.proofs.title.read_title.Reads as read-title-reads
 
 abbrev Inv-loop : tie.InvT-loop
 Inv-loop image table p₀ n₀ p n = n + length (linesFrom image (100 - n) p) ≡ length (linesFrom image 100 p₀)
@@ -18,40 +15,31 @@ Inv-loop image table p₀ n₀ p n = n + length (linesFrom image (100 - n) p) �
 abbrev μ-loop : tie.MeasureT-loop
 μ-loop image table p₀ n₀ p n = 100 - n
 
--- src/place.rt:27:9
 read-title-requires : tie.Need-read-title-requires Inv-loop μ-loop
 read-title-requires c κs = search needs
 
--- src/place.rt:30:5
 loop-holds : tie.Need-loop-holds Inv-loop μ-loop
 loop-holds c = omega arith
 
--- src/place.rt:30:15
 add-loop : tie.Need-add-loop Inv-loop μ-loop
 add-loop c = omega arith
 
--- src/place.rt:31:13
 read-head-requires : tie.Need-read-head-requires Inv-loop μ-loop
 read-head-requires c κs = search needs
 
--- src/place.rt:32:13
 add-n : tie.Need-add-n Inv-loop μ-loop
 add-n c = omega arith
 
--- src/place.rt:34:13
 returns : tie.Need-returns Inv-loop μ-loop
 unfolding lineCount linesOf
 returns c = sym (count-last (c .before .before .before .before .before .before .args .image .now) (c .before .before .before .loop .n) (c .before .before .before .loop .p) (c .before .read-head .result) (c .before .before .loop-test .taken) (c .before .read-head .ensures) (c .if1 .taken)) ∙ c .before .before .before .loop .inv ∙ rw (c .before .before .before .before .read-title .ensures)
 
--- src/place.rt:30:5
 loop-less : tie.Need-loop-less Inv-loop μ-loop
 loop-less c = omega arith
 
--- src/place.rt:30:5
 loop-again : tie.Need-loop-again Inv-loop μ-loop
 loop-again c = sym (count-next (c .before .before .before .before .before .before .args .image .now) (c .before .before .before .loop .n) (c .before .before .before .loop .p) (c .before .read-head .result) (c .before .before .loop-test .taken) (c .before .read-head .ensures) (c .if1 .left)) ∙ c .before .before .before .loop .inv
 
--- src/place.rt:24:1
 returns-2 : tie.Need-returns-2 Inv-loop μ-loop
 unfolding lineCount linesOf
 returns-2 c = sym (count-done (c .before .before .before .before .args .image .now) (c .before .loop .n) (c .before .loop .p) (c .loop-test .left)) ∙ c .before .loop .inv ∙ rw (c .before .before .read-title .ensures)

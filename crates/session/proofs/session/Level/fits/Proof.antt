@@ -3,6 +3,7 @@ use Rattle.laws.specs.Choice.{_and_}
 use borrow.Author.Tests.{lt-ltb, le-ltb, le-leb, lt-leb, eq-eqb, ne-eqb}
 use Rattle.session.specs.Fits.{levelFits}
 use borrow.Author.Needs.{needs}
+use Rattle.session.proofs.Stepping.{level-within}
 use Rattle.session.proofs.session.Level.fits.Statement.{statement}
 use Rattle.session.proofs.session.Level.fits.Tie as tie
 
@@ -34,8 +35,8 @@ add-result : tie.Need-add-result
 add-result c = search needs
 
 returns-4 : tie.Need-returns-4
-unfolding levelFits _and_
-returns-4 c = simp (eq-eqb _ _ (c .before .before .before .before .before .before .if1 .left), ← c .before .before .before .before .before .line-count .ensures, lt-ltb _ _ (c .before .if2 .left), le-leb _ _ (c .if3 .left), c .before .before .less-one .ensures)
+returns-4 c =
+    level-within _ _ _ _ _ _ (c .before .before .before .before .before .before .if1 .left) (c .before .before .before .before .before .line-count .ensures) (c .before .before .less-one .ensures) (c .before .if2 .left) (c .if3 .left)
 
 pub fits-spec : {M : Type 1} → statement M
 fits-spec =
