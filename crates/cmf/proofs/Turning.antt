@@ -11,7 +11,7 @@ use Rattle.laws.specs.Choice.{if_then_else_, _and_}
 use Rattle.laws.specs.Bytes.{byteAt, room}
 use Rattle.laws.proofs.Cases.{if-true, if-false, if-lt, if-ge, if-le, if-ind, by-test}
 use Rattle.laws.proofs.Rooms.{room-le}
-use Rattle.cmf.specs.Readers.{runOf, textsFrom, allDigits, itemFrom, tagBit, optionsEnd, headRead, headBy, headAt}
+use Rattle.cmf.specs.Readers.{runOf, textsFrom, allDigits, itemFrom, textBytes, tagBit, optionsEnd, headRead, headBy, headAt}
 use Rattle.cmf.specs.Places.{linesFrom, lineFrom}
 use Rattle.cmf.specs.declared.text.Run.{Run}
 use Rattle.cmf.specs.declared.head.Head.{Head}
@@ -81,6 +81,13 @@ module _ (im : List ℕ) where
   unfolding itemFrom
   items-out zero at a = refl
   items-out (suc n) at a = if-ge at (length im) _ _ a
+
+  -- no text past the image
+  pub text-out : (at : ℕ) → length im ≤ at → textBytes im at ≡ []
+  unfolding textBytes
+  text-out at h =
+      if-ind (λ (l : List ℕ). l ≡ []) (room (length im) at (1 + byteAt im at))
+      (λ e. absurd (omega (arith, room-le (length im) at (1 + byteAt im at) e))) (λ e. refl)
 
 -- a head whose options and password are all there
 pub head-whole : (im : List ℕ) (p tag : ℕ) (t : Run) (h : Head) → optionsEnd p tag ≤ length im → t .fits ≡ true → tagBit 16 tag ≤ tagBit 8 tag

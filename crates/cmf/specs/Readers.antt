@@ -4,10 +4,11 @@
 -- What is refused with 6 or 7 reads as the last of its list and leads nowhere.
 use Prim.Native.Nat.{ℕ, zero, suc, _+_, _-_, _*_, _/_, _%_, max}
 use mathlib.Core.Bool.{Bool, true, false}
-use mathlib.Core.List.{List}
+use mathlib.Core.List.{List, []}
 use lib.ListN.{length}
 use Rattle.laws.specs.Choice.{if_then_else_, _and_, _=?_, _<?_, _≤?_}
 use Rattle.laws.specs.Bytes.{byteAt, wordAt, room}
+use Rattle.laws.specs.Parts.{partAt}
 use Rattle.field.specs.Formats.{formatOf}
 use Rattle.field.specs.Table.{profileOf}
 use Rattle.field.specs.Values.{valueAt}
@@ -66,6 +67,14 @@ passwordFits im at =
 unfoldable pub itemFrom : List ℕ → ℕ → ℕ → ℕ
 itemFrom im zero at = at
 itemFrom im (suc k) at = if at <? length im then itemFrom im k (at + 1 + byteAt im at) else at
+
+-- where the text of an option's item stands: its texts begin behind ten bytes (7.5.21 with R1's var-addr)
+abbrev pub itemPlace : List ℕ → ℕ → ℕ → ℕ
+itemPlace im place item = itemFrom im item (place + 10)
+
+-- the bytes of the text at a place, without its length byte; none where it is not all in the image
+unfoldable pub textBytes : List ℕ → ℕ → List ℕ
+textBytes im at = if room (length im) at (1 + byteAt im at) then partAt (at + 1) (byteAt im at) im else []
 
 -- ---- 7.2: a table's title
 

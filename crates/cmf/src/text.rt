@@ -1,6 +1,6 @@
 // Texts: a length byte and so many bytes; several of them one behind the other.
 ghost use mathlib.Core.Path.{_≡_};
-ghost use Rattle.cmf.specs.Readers.{textsFrom, allDigits, passwordFits, itemFrom};
+ghost use Rattle.cmf.specs.Readers.{textsFrom, allDigits, passwordFits, itemFrom, itemPlace, textBytes};
 ghost use Prim.Native.Nat.{_+_, _<_, max};
 use crate::image::Image;
 use laws::byte_at;
@@ -109,4 +109,38 @@ pub fn item_place(image: &[u8], k: usize, at: usize) -> usize
         left = left - 1;
     }
     place
+}
+
+// The bytes of the text at a place.
+pub fn text_bytes<'a>(image: &'a [u8], at: usize) -> &'a [u8]
+    ensures { λ r. ⌜ now r ≡ textBytes (now (image .entry)) at ⌝ }
+{
+    let n = byte_at(image, at) as usize;
+    let whole = room(image, at, 1 + n);
+    if whole {
+        let start = at + 1;
+        let end = start + n;
+        return &image[start..end];
+    }
+    &image[0..0]
+}
+
+// The text of an item of the option at a place.
+pub fn item_bytes<'a>(image: &'a [u8], place: usize, item: usize) -> &'a [u8]
+    ensures { λ r. ⌜ now r ≡ textBytes (now (image .entry)) (itemPlace (now (image .entry)) place item) ⌝ }
+{
+    if place < image.len() {
+        return text_bytes(image, item_place(image, item, place + 10));
+    }
+    &image[0..0]
+}
+
+// The bytes of the constant string whose tag stands at a place.
+pub fn string_bytes<'a>(image: &'a [u8], place: usize) -> &'a [u8]
+    ensures { λ r. ⌜ now r ≡ textBytes (now (image .entry)) (place + 1) ⌝ }
+{
+    if place < image.len() {
+        return text_bytes(image, place + 1);
+    }
+    &image[0..0]
 }

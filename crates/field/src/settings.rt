@@ -7,7 +7,8 @@ use crate::kind::Kind;
 use crate::value::Value;
 use crate::work::in_range;
 
-fn places(x: u16) -> u8
+// How many decimal digits a number of at most five has.
+pub fn places(x: u64) -> u8
     ensures { λ r. ⌜ (r ≡ places x) × (r ≤ 5) ⌝ }
 {
     if x < 10 {
@@ -30,9 +31,9 @@ pub fn counted_cells(x: u16) -> u8
     ensures { λ r. ⌜ r ≡ countedCells x ⌝ }
 {
     if x < 32768 {
-        return 1 + places(32768 - x);
+        return 1 + places((32768 - x) as u64);
     }
-    places(x - 32768)
+    places((x - 32768) as u64)
 }
 
 fn step_fits(s: CounterSettings) -> bool

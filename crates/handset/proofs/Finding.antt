@@ -1,21 +1,18 @@
--- A place is found in an index at the first entry that has it, and not where no entry has it; texts past the image are empty.
-use Prim.Native.Nat.{ℕ, zero, suc, _+_, _-_, _≤_, _<_}
-use mathlib.Core.Path.{_≡_, refl, sym, _∙_}
+-- A place is found in an index at the first entry that has it, and not where no entry has it.
+use Prim.Native.Nat.{ℕ, zero, suc, _+_, _<_}
+use mathlib.Core.Path.{_≡_, refl, sym}
 use mathlib.Core.Bool.{Bool, true, false, true≢false}
 use mathlib.Core.List.{List, [], _∷_, _++_}
 use native.Mathlib.Omega.{arith}
 use native.Mathlib.Decide.{ℕ-discrete}
-use lib.ListN.{length}
-use borrow.Author.Tests.{lt-leb, le-leb}
 use Rattle.laws.specs.Choice.{if_then_else_, _and_, _=?_, _<?_}
-use Rattle.laws.specs.Bytes.{byteAt, room}
-use Rattle.laws.proofs.Cases.{if-ind, if-false, if-eq, if-ne, if-true}
-use Rattle.laws.proofs.Rooms.{room-le}
-use Rattle.cmf.specs.Readers.{componentAt}
+use Rattle.laws.proofs.Cases.{if-ind, if-eq, if-ne}
+use Rattle.cmf.specs.Readers.{itemPlace, textBytes, componentAt}
 use Rattle.walk.specs.Check.{State, checked, refusalOf}
 use Rattle.walk.specs.Index.{entryAt, listed}
 use Rattle.walk.specs.declared.index.Entry.{Entry}
-use Rattle.handset.specs.OptionText.{reached, itemsIn, itemPlace, textRefusal, textBytes, optionText}
+use Rattle.handset.specs.Refusals.{_before_, _unless_}
+use Rattle.handset.specs.OptionText.{reached, itemsIn, textRefusal, optionText}
 
 found-left : (p : ℕ) (es fs : List Entry) → reached p es ≡ true → reached p (es ++ fs) ≡ true
 unfolding reached if_then_else_
@@ -57,19 +54,10 @@ pub still-none : (p : ℕ) (xs : List ℕ) (i : ℕ) → reached p (listed xs i)
 unfolding listed
 still-none p xs i h n = let z : i + 1 ≡ suc i = omega arith in rw z (not-yet p (listed xs i) (entryAt xs i) h n)
 
--- no text past the image
-pub text-out : (im : List ℕ) (at : ℕ) → length im ≤ at → textBytes im at ≡ []
-unfolding textBytes
-text-out im at h =
-    if-ind (λ (l : List ℕ). l ≡ []) (room (length im) at (1 + byteAt im at))
-    (λ e. absurd (omega (arith, room-le (length im) at (1 + byteAt im at) e))) (λ e. refl)
-
 -- the refusal by the state that the check came to
 pub refusal-is : (im : List ℕ) (sheet place item : ℕ) (s : State) → s ≡ checked im sheet
     → textRefusal im sheet place item
-    ≡ (if s .walk .refusal =? 0 then
-    (if reached place (s .fields) and (item <? itemsIn (componentAt im place .field .kind)) then 0 else 14)
-    else s .walk .refusal)
+    ≡ s .walk .refusal before (14 unless (reached place (s .fields) and (item <? itemsIn (componentAt im place .field .kind))))
 unfolding textRefusal refusalOf
 refusal-is im sheet place item s e = rw e
 

@@ -6,7 +6,7 @@ use mathlib.Core.Bool.{Bool, true, false≢true}
 use mathlib.Core.List.{List, [], _∷_, map}
 use native.Mathlib.Omega.{arith}
 use lib.ListN.{length}
-use borrow.Author.Tests.{eqb-true, eqb-false, ltb-true, ltb-false}
+use borrow.Author.Tests.{eqb-true, ltb-true, ltb-false}
 use Rattle.laws.specs.Choice.{_and_, _=?_, _<?_}
 use Rattle.laws.specs.Bytes.{byteAt}
 use Rattle.laws.specs.Parts.{partAt}
@@ -15,14 +15,15 @@ use Rattle.laws.proofs.Rooms.{le-room}
 use Rattle.field.specs.declared.record.Field.{Field}
 use Rattle.cmf.specs.Layouts.{Texts, Component}
 use Rattle.cmf.specs.Grammar.{Every, WellFormed}
-use Rattle.cmf.specs.Readers.{itemFrom, componentAt}
+use Rattle.cmf.specs.Readers.{itemFrom, itemPlace, textBytes, componentAt}
 use Rattle.cmf.specs.declared.component.Component as read
 use Rattle.cmf.proofs.Agreement.{fieldsOf}
 use Rattle.cmf.proofs.Agreeing.{agree}
 use Rattle.walk.specs.Check.{entryOf, checked, refusalOf}
 use Rattle.walk.proofs.Acceptance.{accepted-exactly-when-well-formed, counted}
 use Rattle.walk.proofs.Fields.{every-table}
-use Rattle.handset.specs.OptionText.{reached, itemsIn, itemPlace, textRefusal, textBytes, optionText}
+use Rattle.handset.specs.OptionText.{reached, itemsIn, textRefusal, optionText}
+use Rattle.handset.proofs.Ordering.{none-before, none-unless}
 use Rattle.handset.proofs.Finding.{text-some}
 
 -- ---- the statement
@@ -123,19 +124,14 @@ record Granted (im : List ℕ) (sheet place item : ℕ) : Type 0 where
 -- a refusal of 0 has passed every test
 granted : (im : List ℕ) (sheet place item : ℕ) → textRefusal im sheet place item ≡ 0 → Granted im sheet place item
 unfolding textRefusal
-granted im sheet place item =
-    if-ind P (refusalOf im sheet =? 0)
-    (λ a. if-ind P (reached place (checked im sheet .fields) and (item <? itemsIn (componentAt im place .field .kind)))
-    (λ b _. record {
-      accepted = eqb-true (refusalOf im sheet) 0 a;
+granted im sheet place item h =
+    let a = none-before _ _ h in
+    let b = none-unless 14 _ (λ z. omega arith) (a .1) in
+    record {
+      accepted = a .0;
       found = and-l _ _ b;
       one = ltb-true item (itemsIn (componentAt im place .field .kind)) (and-r _ _ b);
-    })
-    (λ _ z. absurd (omega arith)))
-    (λ a z. absurd (omega (arith, eqb-false (refusalOf im sheet) 0 a)))
-  where
-    P : ℕ → Type 0
-    P k = k ≡ 0 → Granted im sheet place item
+    }
 
 -- the text at a place, where it is all in the image
 text-is : (im : List ℕ) (at : ℕ) → at + 1 + byteAt im at ≤ length im → textBytes im at ≡ partAt (at + 1) (byteAt im at) im

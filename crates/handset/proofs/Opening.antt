@@ -7,8 +7,7 @@ use native.Mathlib.Omega.{arith}
 use native.Mathlib.Decide.{ℕ-discrete}
 use lib.ListN.{length, getD, drop, length-append, drop-of-length-le, List·getD-append}
 use lib.Seq.{drop-cons, getD-at}
-use Rattle.laws.specs.Choice.{if_then_else_}
-use Rattle.laws.proofs.Cases.{if-true, if-false, if-eq, if-ne}
+use Rattle.laws.proofs.Cases.{if-eq, if-ne}
 use Rattle.field.specs.Sheet.{defaultWritten}
 use Rattle.cmf.specs.Readers.{componentAt}
 use Rattle.cmf.specs.declared.component.Component.{Component}
@@ -18,6 +17,7 @@ use Rattle.walk.specs.declared.index.Entry.{Entry}
 use Rattle.session.specs.Session.{opened, closed}
 use Rattle.session.specs.Fits.{shapeFits}
 use Rattle.session.specs.declared.session.Session.{Session}
+use Rattle.handset.proofs.Ordering.{first-given, next-given, holding, failing}
 use Rattle.handset.specs.Open.{openRefusal, openAnswer, defaultsWritten, openSheet}
 use Rattle.handset.specs.declared.open.Opened.{Opened}
 
@@ -71,11 +71,11 @@ module _ (im : List ℕ) (columns lines : ℕ) where
 
   shapeless : (n : ℕ) → shapeFits columns lines ≡ false → openRefusal im n columns lines ≡ 1
   unfolding openRefusal
-  shapeless n h = if-false _ _ h
+  shapeless n h = rw (failing 1 (shapeFits columns lines) h) (first-given 1 _ (λ z. omega arith))
 
   shaped : (n : ℕ) (c : State) → shapeFits columns lines ≡ true → c ≡ checked im n → openRefusal im n columns lines ≡ c .walk .refusal
   unfolding openRefusal refusalOf
-  shaped n c h e = if-true _ _ h ∙ ap (λ (x : State). x .walk .refusal) (sym e)
+  shaped n c h e = next-given _ _ (holding 1 (shapeFits columns lines) h) ∙ ap (λ (x : State). x .walk .refusal) (sym e)
 
   pub bad-shape : (s : List ℕ) → shapeFits columns lines ≡ false
       → (answer 1 closed ≡ openAnswer im (length s) columns lines) × (s ≡ openSheet im s columns lines)

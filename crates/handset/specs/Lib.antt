@@ -1,2 +1,4 @@
+pub mod Refusals
 pub mod Open
 pub mod OptionText
+pub mod Draw

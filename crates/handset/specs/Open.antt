@@ -10,11 +10,12 @@ use Rattle.walk.specs.declared.index.Entry.{Entry}
 use Rattle.session.specs.Session.{opened, closed}
 use Rattle.session.specs.Fits.{shapeFits}
 use Rattle.session.specs.declared.session.Session.{Session}
+use Rattle.handset.specs.Refusals.{_before_, _unless_}
 use Rattle.handset.specs.declared.open.Opened.{Opened}
 
 -- 01, Refusal numbers: Open checks 1 first, then 2 to 11
 unfoldable pub openRefusal : List ℕ → ℕ → ℕ → ℕ → ℕ
-openRefusal im sheet columns lines = if shapeFits columns lines then refusalOf im sheet else 1
+openRefusal im sheet columns lines = (1 unless shapeFits columns lines) before refusalOf im sheet
 
 -- the session with the refusal number, 0 for none: a refused Open returns a closed session
 unfoldable pub openAnswer : List ℕ → ℕ → ℕ → ℕ → Opened

@@ -1,3 +1,4 @@
 // The public calls of the menu executor.
+pub mod draw;
 pub mod open;
 pub mod option;

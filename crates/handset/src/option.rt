@@ -2,13 +2,11 @@
 ghost use mathlib.Core.Path.{_≡_};
 ghost use lib.ListN.{length};
 ghost use Rattle.walk.specs.Index.{listed};
-ghost use Rattle.handset.specs.OptionText.{reached, itemsIn, itemPlace, textBytes, textRefusal, optionText};
+ghost use Rattle.handset.specs.OptionText.{reached, itemsIn, textRefusal, optionText};
 use cmf::component::read_component;
-use cmf::text::item_place;
+use cmf::text::item_bytes;
 use field::kind::ImagePlace;
 use field::kind::Kind;
-use laws::byte_at;
-use laws::room;
 use walk::check::check;
 use walk::index::entry_at;
 
@@ -42,30 +40,6 @@ fn items_in(kind: Kind) -> usize
         Kind::Option { items, longest: _ } => items as usize,
         Kind::Trigger => 0,
     }
-}
-
-// The bytes of the text at a place.
-fn text_bytes<'a>(image: &'a [u8], at: usize) -> &'a [u8]
-    ensures { λ r. ⌜ now r ≡ textBytes (now (image .entry)) at ⌝ }
-{
-    let n = byte_at(image, at) as usize;
-    let whole = room(image, at, 1 + n);
-    if whole {
-        let start = at + 1;
-        let end = start + n;
-        return &image[start..end];
-    }
-    &image[0..0]
-}
-
-// The text of an item of the option at a place.
-fn item_bytes<'a>(image: &'a [u8], place: usize, item: usize) -> &'a [u8]
-    ensures { λ r. ⌜ now r ≡ textBytes (now (image .entry)) (itemPlace (now (image .entry)) place item) ⌝ }
-{
-    if place < image.len() {
-        return text_bytes(image, item_place(image, item, place + 10));
-    }
-    &image[0..0]
 }
 
 // The refusal number, 0 for none.

@@ -5,8 +5,11 @@ use mathlib.Core.List.{List, [], _∷_, _++_}
 use native.Mathlib.Nat.{not-suc-le-zero, le-of-suc-le-suc, zero-add, suc-add}
 use native.Mathlib.Numerals.{unary-clauses}
 use native.Mathlib.Omega.{arith}
-use lib.ListN.{length, getD, set, take, drop, drop-of-length-le}
+use lib.ListN.{length, getD, set, take, drop, replicate, drop-of-length-le}
+use borrow.Author.Tests.{leb-true, leb-false}
+use Rattle.laws.specs.Choice.{_≤?_}
 use Rattle.laws.specs.Overwrite.{over, fit}
+use Rattle.laws.proofs.Cases.{by-test}
 
 -- ---- overwriting
 
@@ -46,6 +49,17 @@ over-over [] at s t = refl
 over-over (x ∷ d) zero [] t = simp (unary-clauses)
 over-over (x ∷ d) zero (y ∷ s) t = simp (unary-clauses, zero-add) (ap (λ (r : List ℕ). y ∷ r) (simp zero-add at (over-over d zero s t)))
 over-over (x ∷ d) (suc at) s t = simp (suc-add, unary-clauses) (ap (λ (r : List ℕ). x ∷ r) (over-over d at s t))
+
+-- one list behind the other, whether they fit or not
+pub over-next : (d : List ℕ) (at : ℕ) (s t : List ℕ) → over (over d at s) (at + length s) t ≡ over d at (s ++ t)
+over-next d at s t =
+    by-test ((at + length s) ≤? length d)
+    (λ e. let m : at + length s ≡ min (length d) (at + length s) = omega (arith, leb-true (at + length s) (length d) e) in rw m (over-over d at s t))
+    (λ e. let l : length d < at + length s = leb-false (at + length s) (length d) e in
+    let m : min (length d) (at + length s) ≡ length d = omega arith in
+    over-out (over d at s) (at + length s) t (omega (arith, length-over d at s))
+    ∙ sym (over-out (over d at s) (length d) t (omega (arith, length-over d at s)))
+    ∙ rw m at (over-over d at s t))
 
 -- a store behind a list is that list with one element more
 pub over-snoc : (d : List ℕ) (at y : ℕ) (s : List ℕ) → at + length s < length d → over (set d (at + length s) y) at s ≡ over d at (s ++ (y ∷ []))
@@ -101,6 +115,40 @@ take-fit b n zero (x ∷ s) e p = absurd (omega arith)
 take-fit b n (suc k) [] e p = absurd (omega arith)
 take-fit b zero (suc k) (x ∷ s) e p = absurd (omega arith)
 take-fit b (suc n) (suc k) (x ∷ s) e p = ap (λ (r : List ℕ). x ∷ r) (take-fit b n k s (omega arith) (omega arith))
+
+-- no shorter than asked for: cut; no longer: padded
+pub fit-cut : (b n : ℕ) (s : List ℕ) → n ≤ length s → fit b n s ≡ take n s
+unfolding fit
+fit-cut b zero s h = refl
+fit-cut b (suc n) [] h = absurd (omega arith)
+fit-cut b (suc n) (x ∷ s) h = ap (λ (r : List ℕ). x ∷ r) (fit-cut b n s (omega arith))
+
+fit-blanks : (b n : ℕ) → fit b n [] ≡ replicate n b
+unfolding fit
+fit-blanks b zero = refl
+fit-blanks b (suc n) = ap (λ (r : List ℕ). b ∷ r) (fit-blanks b n)
+
+pub fit-pad : (b n : ℕ) (s : List ℕ) → length s ≤ n → fit b n s ≡ s ++ replicate (n - length s) b
+unfolding fit
+fit-pad b n [] h = let z : n - 0 ≡ n = omega arith in rw z (fit-blanks b n)
+fit-pad b zero (x ∷ s) h = absurd (omega arith)
+fit-pad b (suc n) (x ∷ s) h =
+    let z : suc n - suc (length s) ≡ n - length s = omega arith in
+    rw z (ap (λ (r : List ℕ). x ∷ r) (fit-pad b n s (omega arith)))
+
+-- what is cut anyway does not matter
+pub fit-take : (b n k : ℕ) (s : List ℕ) → n ≤ k → fit b n (take k s) ≡ fit b n s
+unfolding fit
+fit-take b zero k s h = refl
+fit-take b (suc n) zero s h = absurd (omega arith)
+fit-take b (suc n) (suc k) [] h = refl
+fit-take b (suc n) (suc k) (x ∷ s) h = ap (λ (r : List ℕ). x ∷ r) (fit-take b n k s (omega arith))
+
+-- cutting the first of two lists can wait
+pub take-join : (k : ℕ) (s t : List ℕ) → take k (take k s ++ t) ≡ take k (s ++ t)
+take-join zero s t = refl
+take-join (suc k) [] t = refl
+take-join (suc k) (x ∷ s) t = ap (λ (r : List ℕ). x ∷ r) (take-join k s t)
 
 -- written onto blanks
 pub over-blank : (b n : ℕ) (s : List ℕ) → over (fit b n []) 0 s ≡ fit b n s

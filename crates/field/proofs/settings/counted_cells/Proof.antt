@@ -9,6 +9,9 @@ use Rattle.field.proofs.settings.counted_cells.Tie as tie
 sub-places : tie.Need-sub-places
 sub-places c = search needs
 
+cast-places : tie.Need-cast-places
+cast-places c = search needs
+
 places-requires : tie.Need-places-requires
 places-requires c κs = search needs
 
@@ -19,6 +22,9 @@ returns : tie.Need-returns
 unfolding countedCells if_then_else_
 returns c = simp (c .places .ensures .0, lt-ltb _ _ (c .before .if1 .taken))
 
+cast-places-2 : tie.Need-cast-places-2
+cast-places-2 c = search needs
+
 places-requires-2 : tie.Need-places-requires-2
 places-requires-2 c κs = search needs
 
@@ -28,4 +34,13 @@ returns-2 c = simp (c .places2 .ensures .0, le-ltb _ _ (c .before .if1 .left))
 
 pub counted-cells-spec : {M : Type 1} → statement M
 counted-cells-spec =
-    tie.close (tie.spec sub-places places-requires add-result returns places-requires-2 returns-2)
+    tie.close
+    (tie.spec
+    sub-places
+    cast-places
+    places-requires
+    add-result
+    returns
+    cast-places-2
+    places-requires-2
+    returns-2)

@@ -3,11 +3,10 @@ use lib.ListN.{length}
 use mathlib.Core.Path.{sym, _∙_}
 use Prim.Native.Nat.{_+_, _≤_}
 use native.Mathlib.Omega.{arith}
-use Rattle.cmf.proofs.Turning.{items-out}
-use Rattle.handset.proofs.Finding.{text-out}
+use Rattle.cmf.proofs.Turning.{items-out, text-out}
 use borrow.Author.Needs.{needs}
-use Rattle.handset.proofs.option.item_bytes.Statement.{statement}
-use Rattle.handset.proofs.option.item_bytes.Tie as tie
+use Rattle.cmf.proofs.text.item_bytes.Statement.{statement}
+use Rattle.cmf.proofs.text.item_bytes.Tie as tie
 
 add-item-place : tie.Need-add-item-place
 add-item-place c = search needs

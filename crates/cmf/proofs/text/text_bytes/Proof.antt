@@ -4,12 +4,12 @@ use Rattle.laws.specs.Choice.{if_then_else_}
 use Prim.Native.Nat.{_+_, _-_}
 use mathlib.Core.Path.{_≡_}
 use lib.ListN.{length}
-use Rattle.handset.specs.OptionText.{textBytes}
+use Rattle.cmf.specs.Readers.{textBytes}
 use Rattle.laws.proofs.Cases.{via}
 use Rattle.laws.proofs.Rooms.{room-le}
 use borrow.Author.Needs.{needs}
-use Rattle.handset.proofs.option.text_bytes.Statement.{statement}
-use Rattle.handset.proofs.option.text_bytes.Tie as tie
+use Rattle.cmf.proofs.text.text_bytes.Statement.{statement}
+use Rattle.cmf.proofs.text.text_bytes.Tie as tie
 
 byte-at-requires : tie.Need-byte-at-requires
 byte-at-requires c κs = search needs

@@ -1,0 +1,88 @@
+-- Draw, one case at a time, over variables.
+use Prim.Native.Nat.{ℕ, _*_, _≤_}
+use mathlib.Core.Path.{_≡_, sym, ap, _∙_}
+use mathlib.Core.Bool.{true, false}
+use mathlib.Core.List.{List, []}
+use native.Mathlib.Omega.{arith}
+use native.Mathlib.Nat.{mul-le-mul}
+use lib.ListN.{length}
+use borrow.Author.Tests.{eq-eqb, ne-eqb, eqb-true}
+use Rattle.laws.specs.Choice.{_=?_}
+use Rattle.laws.proofs.Cases.{if-eq, if-ne, and-l}
+use Rattle.walk.specs.Check.{State, checked, refusalOf}
+use Rattle.session.specs.Fits.{shapeFits, sessionFits}
+use Rattle.session.specs.declared.session.Session.{Session}
+use Rattle.picture.specs.Rows.{pictureOf}
+use Rattle.picture.specs.Cursor.{editCursor}
+use Rattle.handset.specs.Refusals.{_before_, _unless_}
+use Rattle.handset.proofs.Ordering.{first-given, next-given, holding, failing, none-before, none-unless}
+use Rattle.handset.specs.Draw.{drawRefusal, drawCursor, drawnPicture}
+
+module _ (im : List ℕ) (sheet : ℕ) (s : Session) (n : ℕ) (c : State) (e : c ≡ checked im sheet) where
+  refusal-of : refusalOf im sheet ≡ c .walk .refusal
+  unfolding refusalOf
+  refusal-of = ap (λ (x : State). x .walk .refusal) (sym e)
+
+  pub bad-image : (c .walk .refusal ≡ 0 → ⊥) → c .walk .refusal ≡ drawRefusal im sheet s n
+  unfolding drawRefusal
+  bad-image h = sym (rw refusal-of (first-given (c .walk .refusal) _ h))
+
+  behind-image : c .walk .refusal ≡ 0 → drawRefusal im sheet s n ≡ (12 unless sessionFits im s) before (1 unless (n =? s .columns * s .lines))
+  unfolding drawRefusal
+  behind-image h = next-given (refusalOf im sheet) _ (refusal-of ∙ h)
+
+  pub bad-session : c .walk .refusal ≡ 0 → sessionFits im s ≡ false → 12 ≡ drawRefusal im sheet s n
+  bad-session h f =
+      sym (behind-image h ∙ rw (failing 12 (sessionFits im s) f) (first-given 12 _ (λ z. omega arith)))
+
+  behind-session : c .walk .refusal ≡ 0 → sessionFits im s ≡ true → drawRefusal im sheet s n ≡ 1 unless (n =? s .columns * s .lines)
+  behind-session h f = behind-image h ∙ next-given _ _ (holding 12 (sessionFits im s) f)
+
+  pub good-picture : c .walk .refusal ≡ 0 → sessionFits im s ≡ true → n ≡ s .columns * s .lines → 0 ≡ drawRefusal im sheet s n
+  good-picture h f l = sym (behind-session h f ∙ holding 1 _ (eq-eqb n (s .columns * s .lines) l))
+
+  pub bad-picture : c .walk .refusal ≡ 0 → sessionFits im s ≡ true → (n ≡ s .columns * s .lines → ⊥) → 1 ≡ drawRefusal im sheet s n
+  bad-picture h f l = sym (behind-session h f ∙ failing 1 _ (ne-eqb n (s .columns * s .lines) l))
+
+-- the picture of a display of at most 255 columns and lines
+pub area : (a b : ℕ) → a ≤ 255 → b ≤ 255 → a * b ≤ 65025
+area a b h k = mul-le-mul h k
+
+-- what a Draw that is not refused has tested
+pub record Granted (im : List ℕ) (sheet : ℕ) (s : Session) (n : ℕ) : Type 0 where
+  pub accepted : refusalOf im sheet ≡ 0
+  pub fits : sessionFits im s ≡ true
+  pub size : n ≡ s .columns * s .lines
+
+pub granted : (im : List ℕ) (sheet : ℕ) (s : Session) (n : ℕ) → drawRefusal im sheet s n ≡ 0 → Granted im sheet s n
+unfolding drawRefusal
+granted im sheet s n h =
+    let a = none-before _ _ h in
+    let b = none-before _ _ (a .1) in
+    record {
+      accepted = a .0;
+      fits = none-unless 12 (sessionFits im s) (λ z. omega arith) (b .0);
+      size = eqb-true n (s .columns * s .lines) (none-unless 1 _ (λ z. omega arith) (b .1));
+    }
+
+pub shape-fits : (im : List ℕ) (s : Session) → sessionFits im s ≡ true → shapeFits (s .columns) (s .lines) ≡ true
+unfolding sessionFits
+shape-fits im s h = and-l _ _ h
+
+-- a refused Draw has no cursor and leaves the picture; another has both
+module _ (im sheet : List ℕ) (s : Session) (d : List ℕ) (k : ℕ) (e : k ≡ drawRefusal im (length sheet) s (length d)) where
+  pub refused-cursor : (k ≡ 0 → ⊥) → [] ≡ drawCursor im (length sheet) s (length d)
+  unfolding drawCursor
+  refused-cursor h = sym (rw (← e) (if-ne k 0 _ _ h))
+
+  pub refused-picture : (k ≡ 0 → ⊥) → d ≡ drawnPicture im sheet s d
+  unfolding drawnPicture
+  refused-picture h = sym (rw (← e) (if-ne k 0 _ _ h))
+
+  pub drawn-cursor : k ≡ 0 → editCursor im s ≡ drawCursor im (length sheet) s (length d)
+  unfolding drawCursor
+  drawn-cursor h = sym (rw (← e) (if-eq k 0 _ _ h))
+
+  pub drawn-picture : k ≡ 0 → pictureOf im sheet s ≡ drawnPicture im sheet s d
+  unfolding drawnPicture
+  drawn-picture h = sym (rw (← e) (if-eq k 0 _ _ h))

@@ -1,0 +1,15 @@
+-- Every field of an accepted image shows as many cells as its kind is said to take, so that the cells before a component are where the edit
+-- cursor counts them.
+use Prim.Native.Nat.{ℕ}
+use mathlib.Core.Path.{_≡_}
+use mathlib.Core.List.{List}
+use Rattle.cmf.specs.Grammar.{Every, WellFormed}
+use Rattle.walk.specs.Check.{refusalOf}
+use Rattle.walk.proofs.Acceptance.{accepted-exactly-when-well-formed}
+use Rattle.walk.proofs.Fields.{every-table}
+use Rattle.picture.proofs.Widths.{Wide, component-wide}
+
+pub fields-wide : (im : List ℕ) (sheet : ℕ) (e : refusalOf im sheet ≡ 0)
+    → Every (Wide im) (accepted-exactly-when-well-formed im sheet .0 e .fields)
+fields-wide im sheet e =
+    every-table im (Wide im) (component-wide im) _ _ _ _ (accepted-exactly-when-well-formed im sheet .0 e .table)

@@ -1,0 +1,14 @@
+-- Refusals in their order: the first that is given decides (01, Refusal numbers).
+use Prim.Native.Nat.{ℕ}
+use mathlib.Core.Bool.{Bool}
+use Rattle.laws.specs.Choice.{if_then_else_, _=?_}
+
+infixr 20 _before_
+infix 22 _unless_
+-- a refusal number, or the next one where there is none; 0 is none
+unfoldable pub _before_ : ℕ → ℕ → ℕ
+a before b = if a =? 0 then b else a
+
+-- a refusal number where something does not hold
+unfoldable pub _unless_ : ℕ → Bool → ℕ
+k unless t = if t then 0 else k

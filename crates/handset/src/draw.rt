@@ -1,0 +1,60 @@
+// The call Draw: fills a picture, and says where the edit cursor stands.
+ghost use mathlib.Core.Path.{_≡_};
+ghost use lib.ListN.{length};
+ghost use Rattle.picture.specs.Cursor.{told};
+ghost use Rattle.handset.specs.Draw.{drawRefusal, drawCursor, drawnPicture};
+use picture::cursor::EditCursor;
+use picture::cursor::edit_cursor;
+use picture::picture::put_picture;
+use session::session::Session;
+use walk::check::check;
+
+// The refusal number, 0 for none, and the edit cursor: nowhere where it is refused.
+pub struct Drawn {
+    pub refusal: u8,
+    pub cursor: EditCursor,
+}
+
+// The refusal number for a picture whose length is not columns x lines.
+pub const NO_PICTURE: u8 = 1;
+
+// The refusal number for a session that does not fit the image.
+pub const NO_SESSION: u8 = 12;
+
+// The refusal number, 0 for none, for a picture of so many bytes.
+fn draw_refusal(image: &[u8], sheet: usize, session: Session, length: usize) -> u8
+    ensures { λ r. ⌜ r ≡ drawRefusal (now (image .entry)) sheet session length ⌝ }
+{
+    let c = check(image, sheet);
+    let refusal = c.walk.refusal;
+    if refusal != 0 {
+        return refusal;
+    }
+    let fits = session.fits(image);
+    if !fits {
+        return NO_SESSION;
+    }
+    if length == session.columns as usize * session.lines as usize {
+        return 0;
+    }
+    NO_PICTURE
+}
+
+pub fn draw(image: &[u8], sheet: &[u8], session: Session, picture: &mut [u8]) -> Drawn
+    ensures { λ r. ⌜ r .refusal ≡ drawRefusal (now (image .entry)) (length (now (sheet .entry))) session (length (now (picture .entry))) ⌝ }
+    ensures { λ r. ⌜ told (r .cursor) ≡ drawCursor (now (image .entry)) (length (now (sheet .entry))) session (length (now (picture .entry))) ⌝ }
+    ensures { λ _. ⌜ now (picture .exit) ≡ drawnPicture (now (image .entry)) (now (sheet .entry)) session (now (picture .entry)) ⌝ }
+{
+    let refusal = draw_refusal(image, sheet.len(), session, picture.len());
+    if refusal != 0 {
+        return Drawn {
+            refusal,
+            cursor: EditCursor::Nowhere,
+        };
+    }
+    put_picture(image, sheet, session, &mut *picture);
+    Drawn {
+        refusal: 0,
+        cursor: edit_cursor(image, session),
+    }
+}

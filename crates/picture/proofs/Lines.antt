@@ -1,0 +1,144 @@
+-- Rows put together from their parts, and one turn of each loop over a line's components.
+use Prim.Native.Nat.{ℕ, zero, suc, _+_, _-_, _≤_, _<_}
+use mathlib.Core.Path.{_≡_, refl, sym, ap, _∙_}
+use mathlib.Core.Bool.{Bool, true, false}
+use mathlib.Core.List.{List, [], _∷_, _++_, append-nil, append-assoc}
+use native.Mathlib.Omega.{arith}
+use lib.ListN.{length, take, replicate, length-append}
+use Rattle.laws.specs.Choice.{if_then_else_, _=?_}
+use Rattle.laws.specs.Bytes.{byteAt}
+use Rattle.laws.specs.Overwrite.{fit}
+use Rattle.laws.proofs.Overwriting.{length-fit, fit-take}
+use Rattle.laws.proofs.Cases.{if-true, if-false}
+use Rattle.cmf.specs.Readers.{textBytes, headAt, componentAt}
+use Rattle.cmf.specs.Places.{componentsFrom, componentsOf, lineCount}
+use Rattle.cmf.specs.declared.head.Head.{Head}
+use Rattle.cmf.specs.declared.component.Component.{Component}
+use Rattle.session.specs.Fits.{mostColumns, cursorHead}
+use Rattle.session.specs.declared.session.Session.{Session}
+use Rattle.picture.specs.Row.{kept, Behind}
+use Rattle.picture.specs.Texts.{blank, star, colon, componentText}
+use Rattle.picture.specs.Rows.{greater, anyEditable, editMark, lineNumber, moreMark, titleRow, dot, capitalP, passwordRow, dataText, submenuMark, lineRow}
+use Rattle.picture.proofs.Writing.{kept-short, kept-join, behind, short, row-done}
+
+-- ---- cut or padded
+
+-- what a row drops is cut anyway
+pub fit-kept : (n : ℕ) (s : List ℕ) → n ≤ mostColumns → kept (fit blank n (kept s)) ≡ fit blank n s
+unfolding kept
+fit-kept n s h = rw (fit-take blank n mostColumns s h) (kept-short (fit blank n s) (omega (arith, length-fit blank n s)))
+
+-- a row that is not wider than the display
+whole : (z s : List ℕ) → length s ≤ mostColumns → z ≡ kept s → z ≡ s
+whole z s h e = e ∙ kept-short s h
+
+-- ---- whole rows
+
+line-row : {x y u v z d : List ℕ} {m e : ℕ} (w : ℕ) → 2 ≤ w → w ≤ mostColumns → x ≡ [] → Behind x (m ∷ []) y → Behind y d u
+    → v ≡ kept (fit blank (w - 1) u) → Behind v (e ∷ []) z → z ≡ m ∷ (fit blank (w - 2) d ++ (e ∷ []))
+unfolding fit
+line-row {u = u} {v = v} {z = z} {d = d} {m = m} {e = e} w a b q r s f g =
+    let t : u ≡ kept (m ∷ d) = rw q at (behind r s .is) in
+    let k : w - 1 ≡ suc (w - 2) = omega arith in
+    let o : v ≡ fit blank (w - 1) (m ∷ d) = f ∙ rw t (fit-kept (w - 1) (m ∷ d) (omega arith)) in
+    let i : v ≡ m ∷ fit blank (w - 2) d = o ∙ rw k in
+    whole z (m ∷ (fit blank (w - 2) d ++ (e ∷ []))) (omega (arith, length-append (fit blank (w - 2) d) (e ∷ []), length-fit blank (w - 2) d)) (rw i at (g .is))
+
+title-row : {x y u v r z t ns : List ℕ} {e m : ℕ} (w : ℕ) → 4 ≤ w → w ≤ mostColumns → length ns ≡ 2 → x ≡ [] → Behind x t y → u ≡ kept (fit blank (w - 4) y)
+    → Behind u (e ∷ []) v → Behind v ns r → Behind r (m ∷ []) z → z ≡ fit blank (w - 4) t ++ (e ∷ (ns ++ (m ∷ [])))
+title-row {y = y} {u = u} {z = z} {t = t} {ns = ns} {e = e} {m = m} w a b n q f g h k l =
+    let o : y ≡ kept t = rw q at (f .is) in
+    let i : u ≡ fit blank (w - 4) t = g ∙ rw o (fit-kept (w - 4) t (omega arith)) in
+    let j = behind h (behind k l) .is in
+    let c = length-append (fit blank (w - 4) t) (e ∷ (ns ++ (m ∷ []))) in
+    let d = length-append ns (m ∷ []) in
+    whole z (fit blank (w - 4) t ++ (e ∷ (ns ++ (m ∷ [])))) (omega (arith, c, d, length-fit blank (w - 4) t)) (rw i at j)
+
+pub number-length : (n : ℕ) → length (lineNumber n) ≡ 2
+unfolding lineNumber
+number-length n = refl
+
+-- a text from the left edge on, cut or padded to the whole row
+fitted-row : {x y z s : List ℕ} (w : ℕ) → w ≤ mostColumns → x ≡ [] → Behind x s y → z ≡ kept (fit blank w y) → z ≡ fit blank w s
+fitted-row {y = y} {s = s} w a q f g = let o : y ≡ kept s = rw q at (f .is) in g ∙ rw o (fit-kept w s a)
+
+pub blank-row : {x z : List ℕ} (w : ℕ) → w ≤ mostColumns → x ≡ [] → z ≡ kept (fit blank w x) → z ≡ fit blank w []
+blank-row w a q g = g ∙ rw q (kept-short (fit blank w []) (omega (arith, length-fit blank w [])))
+
+-- ---- the components of a line
+
+module _ (im sheet : List ℕ) (s : Session) where
+  data-one : {x y : List ℕ} (left p : ℕ) (c : Component) → 0 < left → c ≡ componentAt im p → Behind x (componentText im sheet s p c) y
+      → kept (y ++ dataText im sheet s (if c .last then [] else componentsFrom im (left - 1) (c .next))) ≡ kept (x ++ dataText im sheet s (componentsFrom im left p))
+  unfolding dataText componentsFrom
+  data-one zero p c h e f = absurd (omega arith)
+  data-one (suc n) p c h e f = let z : suc n - 1 ≡ n = omega arith in rw (z, f .is, kept-join, append-assoc, e)
+
+  -- the last component ends the loop; behind another there is the next
+  pub data-last : {x y : List ℕ} (left p : ℕ) (c : Component) → 0 < left → c ≡ componentAt im p → Behind x (componentText im sheet s p c) y → c .last ≡ true
+      → y ≡ kept (x ++ dataText im sheet s (componentsFrom im left p))
+  unfolding dataText
+  data-last {y = y} left p c h e f t =
+      row-done y (short f) ∙ ap (λ (r : List ℕ). kept (y ++ dataText im sheet s r)) (sym (if-true _ _ t)) ∙ data-one left p c h e f
+
+  pub data-next : {x y : List ℕ} (left p : ℕ) (c : Component) → 0 < left → c ≡ componentAt im p → Behind x (componentText im sheet s p c) y → c .last ≡ false
+      → kept (y ++ dataText im sheet s (componentsFrom im (left - 1) (c .next))) ≡ kept (x ++ dataText im sheet s (componentsFrom im left p))
+  data-next {y = y} left p c h e f t =
+      ap (λ (r : List ℕ). kept (y ++ dataText im sheet s r)) (sym (if-false _ _ t)) ∙ data-one left p c h e f
+
+  pub data-done : (x : List ℕ) (left p : ℕ) → length x ≤ mostColumns → left ≤ 0 → x ≡ kept (x ++ dataText im sheet s (componentsFrom im left p))
+  unfolding dataText componentsFrom
+  data-done x left p l h = let z : left ≡ 0 = omega arith in rw z (row-done x l)
+
+-- ---- an editable one among them
+
+module _ (im : List ℕ) where
+  editable-one : (left p : ℕ) (c : Component) → 0 < left → c ≡ componentAt im p
+      → anyEditable im (componentsFrom im left p)
+      ≡ (if c .editable then true else anyEditable im (if c .last then [] else componentsFrom im (left - 1) (c .next)))
+  unfolding anyEditable componentsFrom
+  editable-one zero p c h e = absurd (omega arith)
+  editable-one (suc n) p c h e = let z : suc n - 1 ≡ n = omega arith in rw (z, e)
+
+  pub editable-here : (left p : ℕ) (c : Component) → 0 < left → c ≡ componentAt im p → c .editable ≡ true → anyEditable im (componentsFrom im left p) ≡ true
+  editable-here left p c h e t = editable-one left p c h e ∙ if-true _ _ t
+
+  pub editable-last : (left p : ℕ) (c : Component) → 0 < left → c ≡ componentAt im p → c .editable ≡ false → c .last ≡ true
+      → anyEditable im (componentsFrom im left p) ≡ false
+  unfolding anyEditable
+  editable-last left p c h e t l =
+      editable-one left p c h e ∙ if-false _ _ t ∙ ap (λ (r : List ℕ). anyEditable im r) (if-true _ _ l)
+
+  pub editable-next : (left p : ℕ) (c : Component) → 0 < left → c ≡ componentAt im p → c .editable ≡ false → c .last ≡ false
+      → anyEditable im (componentsFrom im (left - 1) (c .next)) ≡ anyEditable im (componentsFrom im left p)
+  editable-next left p c h e t l =
+      sym (editable-one left p c h e ∙ if-false _ _ t ∙ ap (λ (r : List ℕ). anyEditable im r) (if-false _ _ l))
+
+  pub editable-done : (left p : ℕ) → left ≤ 0 → anyEditable im (componentsFrom im left p) ≡ false
+  unfolding anyEditable componentsFrom
+  editable-done left p h = let z : left ≡ 0 = omega arith in rw z
+
+-- ---- rows, from what the callees ensure
+
+pub line-row-is : {x y u v z : List ℕ} {m e : ℕ} (im sheet : List ℕ) (s : Session) (k p : ℕ) (h : Head) → 2 ≤ s .columns → s .columns ≤ mostColumns
+    → h ≡ headAt im p → m ≡ (if k =? s .here .cursor then greater else blank) → x ≡ [] → Behind x (m ∷ []) y
+    → Behind y (dataText im sheet s (componentsFrom im (length im + 1) (h .component))) u → v ≡ kept (fit blank (s .columns - 1) u)
+    → e ≡ submenuMark h → Behind v (e ∷ []) z → z ≡ lineRow im sheet s k p
+unfolding lineRow componentsOf
+line-row-is im sheet s k p h a b q n r f g i j o = line-row (s .columns) a b r f g i o ∙ rw (n, j, q)
+
+pub title-row-is : {x y u v r z t : List ℕ} {count e m : ℕ} (im : List ℕ) (s : Session) → 4 ≤ s .columns → s .columns ≤ mostColumns
+    → count ≡ lineCount im (s .here .table .0) → t ≡ textBytes im (s .here .table .0) → x ≡ [] → Behind x t y → u ≡ kept (fit blank (s .columns - 4) y)
+    → e ≡ editMark im (s .here) → Behind u (e ∷ []) v → Behind v (lineNumber (s .here .cursor + 1)) r
+    → m ≡ moreMark count (s .lines - 1) (s .here .cursor) → Behind r (m ∷ []) z → z ≡ titleRow im s
+unfolding titleRow
+title-row-is im s a b n f g h i j k l o q =
+    title-row (s .columns) a b (number-length (s .here .cursor + 1)) g h i k l q ∙ rw (j, o, n, f)
+
+pub password-row-is : {x y u v r t o z : List ℕ} {d k : ℕ} (im : List ℕ) (s : Session) (h : Head) (n : ℕ) → s .columns ≤ mostColumns → h ≡ cursorHead im (s .here)
+    → d ≡ byteAt im (h .password) → k ≡ d - n → x ≡ [] → Behind x (capitalP ∷ []) y → Behind y (0x77 ∷ []) u → Behind u (0x64 ∷ []) v
+    → Behind v (colon ∷ []) r → Behind r (replicate n star) t → Behind t (replicate k dot) o → z ≡ kept (fit blank (s .columns) o)
+    → z ≡ passwordRow im s n
+unfolding passwordRow
+password-row-is im s h n a q e g f b c i j l m p =
+    fitted-row (s .columns) a f (behind b (behind c (behind i (behind j (behind l m))))) p ∙ rw (g, e, q)

@@ -1,0 +1,70 @@
+-- The parts of the row, one behind the other.
+use Rattle.picture.proofs.Lines.{title-row-is}
+use borrow.Author.Needs.{needs}
+use Rattle.picture.proofs.title.title_row.Statement.{statement}
+use Rattle.picture.proofs.title.title_row.Tie as tie
+
+cast-columns : tie.Need-cast-columns
+cast-columns c = search needs
+
+cast-rows : tie.Need-cast-rows
+cast-rows c = search needs
+
+sub-rows : tie.Need-sub-rows
+sub-rows c = search needs
+
+line-count-requires : tie.Need-line-count-requires
+line-count-requires c κs = search needs
+
+new-requires : tie.Need-new-requires
+new-requires c κs = search needs
+
+text-bytes-requires : tie.Need-text-bytes-requires
+text-bytes-requires c κs = search needs
+
+push-all-requires : tie.Need-push-all-requires
+push-all-requires c κs = search needs
+
+sub-fit : tie.Need-sub-fit
+sub-fit c = search needs
+
+fit-requires : tie.Need-fit-requires
+fit-requires c κs = search needs
+
+edit-mark-requires : tie.Need-edit-mark-requires
+edit-mark-requires c κs = search needs
+
+push-requires : tie.Need-push-requires
+push-requires c κs = search needs
+
+line-number-requires : tie.Need-line-number-requires
+line-number-requires c κs = search needs
+
+more-mark-requires : tie.Need-more-mark-requires
+more-mark-requires c κs = search needs
+
+push-requires-2 : tie.Need-push-requires-2
+push-requires-2 c κs = search needs
+
+returns : tie.Need-returns
+returns c = title-row-is _ (c .before .before .before .before .before .before .before .before .before .before .before .before .before .before .args .session) (c .before .before .before .before .before .before .before .before .before .before .before .before .before .before .pre .0) (c .before .before .before .before .before .before .before .before .before .before .before .before .before .before .pre .1) (c .before .before .before .before .before .before .before .before .before .line-count .ensures) (c .before .before .before .before .before .before .before .text-bytes .ensures) (c .before .before .before .before .before .before .before .before .new .ensures) (c .before .before .before .before .before .before .push-all .ensures) (c .before .before .before .before .before .fit .ensures) (c .before .before .before .before .edit-mark .ensures) (c .before .before .before .push .ensures) (c .before .before .line-number .ensures) (c .before .more-mark .ensures) (c .push2 .ensures)
+
+pub title-row-spec : {M : Type 1} → statement M
+title-row-spec =
+    tie.close
+    (tie.spec
+    cast-columns
+    cast-rows
+    sub-rows
+    line-count-requires
+    new-requires
+    text-bytes-requires
+    push-all-requires
+    sub-fit
+    fit-requires
+    edit-mark-requires
+    push-requires
+    line-number-requires
+    more-mark-requires
+    push-requires-2
+    returns)

@@ -1,0 +1,4 @@
+pub mod Texts
+pub mod Rows
+pub mod Cursor
+pub mod Row

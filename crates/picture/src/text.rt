@@ -1,0 +1,230 @@
+// What a component shows: the text of each kind, put behind what a row has.
+ghost use mathlib.Core.Path.{_≡_};
+ghost use mathlib.Core.List.{[], _∷_, _++_};
+ghost use Prim.Native.Nat.{_-_};
+ghost use Rattle.picture.specs.Row.{rowText, Behind};
+ghost use Rattle.picture.specs.Texts.{digitChar, signChar, digitCells, numeralText, decimal, plain, countText, alignedRight, paddedRight, timeText, yearCells, dateText, triggerText, cellsText, widthOf, fieldText, visiting, componentText};
+ghost use Rattle.cmf.specs.Readers.{textBytes, itemPlace};
+use crate::row::Row;
+use cmf::component::Component;
+use cmf::text::item_bytes;
+use cmf::text::string_bytes;
+use field::kind::Kind;
+use field::numeral::Numeral;
+use field::record::Field;
+use field::settings::places;
+use field::table::profile_of;
+use field::value::load;
+use field::work::Work;
+use field::work::in_range;
+use session::session::Mode;
+use session::session::Session;
+
+fn digit_char(d: u64) -> u8
+    ensures { λ r. ⌜ r ≡ digitChar d ⌝ }
+{
+    if d < 10 {
+        return b'0' + d as u8;
+    }
+    if d < 16 {
+        return b'A' + (d - 10) as u8;
+    }
+    b' '
+}
+
+fn sign_char(c: u64) -> u8
+    ensures { λ r. ⌜ r ≡ signChar c ⌝ }
+{
+    if c == 0 { b'-' } else { b'+' }
+}
+
+// One number less another, or 0.
+pub(crate) fn less(a: usize, b: usize) -> usize
+    ensures { λ r. ⌜ r ≡ a - b ⌝ }
+{
+    if a < b {
+        return 0;
+    }
+    a - b
+}
+
+// The digits of a year.
+pub(crate) fn year_cells(long: bool) -> u8
+    ensures { λ r. ⌜ r ≡ yearCells long ⌝ }
+{
+    if long { 4 } else { 2 }
+}
+
+// How many cells of the display a kind takes.
+pub fn width_of(kind: Kind) -> usize
+    ensures { λ r. ⌜ r ≡ widthOf kind ⌝ }
+{
+    match kind {
+        Kind::Integer(_) => profile_of(kind).cells as usize,
+        Kind::Counter(s) => s.width as usize,
+        Kind::Time(long) => {
+            if long {
+                return 8;
+            }
+            5
+        }
+        Kind::Date(long) => year_cells(long) as usize + 6,
+        Kind::Switch(_) => profile_of(kind).cells as usize,
+        Kind::Option { items: _, longest } => longest as usize,
+        Kind::Trigger => 3,
+    }
+}
+
+impl Row {
+    // The digits in count cells from one on.
+    fn digits(self, work: Work, from: u8, count: u8) -> Self
+        ensures { λ r. ⌜ Behind (rowText self) (digitCells (work .cells) from count) (rowText r) ⌝ }
+    {
+        let mut row = self;
+        let mut at = from as usize;
+        let mut left = count;
+        while 0 < left {
+            row = row.push(digit_char(work.cell(at)));
+            at = at + 1;
+            left = left - 1;
+        }
+        row
+    }
+
+    fn numeral(self, n: Numeral, work: Work) -> Self
+        ensures { λ r. ⌜ Behind (rowText self) (numeralText n (work .cells)) (rowText r) ⌝ }
+    {
+        if n.signs == 0 {
+            return self.digits(work, 0, n.digits);
+        }
+        self.push(sign_char(work.cell(0))).digits(work, 1, n.digits)
+    }
+
+    // The count lowest digits of a number.
+    fn decimal(self, count: u8, x: u64) -> Self
+        ensures { λ r. ⌜ Behind (rowText self) (decimal count x) (rowText r) ⌝ }
+    {
+        if count == 0 {
+            return self;
+        }
+        self.decimal(count - 1, x / 10).push(b'0' + (x % 10) as u8)
+    }
+
+    // A counter's number, given with 32,768 added, right aligned.
+    fn counter(self, width: u8, x: u64) -> Self
+        ensures { λ r. ⌜ Behind (rowText self) (alignedRight width (countText x)) (rowText r) ⌝ }
+    {
+        let w = width as usize;
+        if x < 32768 {
+            let size = 32768 - x;
+            let n = places(size);
+            return self.repeat(Row::BLANK, less(w, 1 + n as usize))
+                .push(b'-')
+                .decimal(n, size);
+        }
+        let size = x - 32768;
+        let n = places(size);
+        self.repeat(Row::BLANK, less(w, n as usize))
+            .decimal(n, size)
+    }
+
+    fn time(self, long: bool, work: Work) -> Self
+        ensures { λ r. ⌜ Behind (rowText self) (timeText long (work .cells)) (rowText r) ⌝ }
+    {
+        let row = self.decimal(2, work.cell(0))
+            .push(b':')
+            .decimal(2, work.cell(1));
+        if long {
+            return row.push(b':').decimal(2, work.cell(2));
+        }
+        row
+    }
+
+    fn date(self, long: bool, work: Work) -> Self
+        ensures { λ r. ⌜ Behind (rowText self) (dateText long (work .cells)) (rowText r) ⌝ }
+    {
+        let row = self.decimal(year_cells(long), work.cell(0)).push(b'-');
+        row.decimal(2, work.cell(1))
+            .push(b'-')
+            .decimal(2, work.cell(2))
+    }
+
+    // An item of the option at a place, padded right.
+    fn item(self, image: &[u8], place: usize, item: u64, longest: u8) -> Self
+        ensures { λ r. ⌜ Behind (rowText self) (paddedRight longest (textBytes (now (image .entry)) (itemPlace (now (image .entry)) place item))) (rowText r) ⌝ }
+    {
+        let text = item_bytes(image, place, item as usize);
+        let n = text.len();
+        self.push_all(text)
+            .repeat(Row::BLANK, less(longest as usize, n))
+    }
+
+    fn trigger(self) -> Self
+        ensures { λ r. ⌜ Behind (rowText self) triggerText (rowText r) ⌝ }
+    {
+        self.push(b'[').push(b'*').push(b']')
+    }
+
+    // What the cells of a visit show at the component at a place.
+    fn cells(self, image: &[u8], place: usize, kind: Kind, work: Work) -> Self
+        ensures { λ r. ⌜ Behind (rowText self) (cellsText (now (image .entry)) place kind (work .cells)) (rowText r) ⌝ }
+    {
+        match kind {
+            Kind::Integer(f) => self.numeral(f.numeral(), work),
+            Kind::Counter(s) => self.counter(s.width, work.cell(0)),
+            Kind::Time(long) => self.time(long, work),
+            Kind::Date(long) => self.date(long, work),
+            Kind::Switch(n) => self.numeral(Numeral::of_bits(n), work),
+            Kind::Option { items: _, longest } => self.item(image, place, work.cell(0), longest),
+            Kind::Trigger => self.trigger(),
+        }
+    }
+
+    // What a field shows outside a visit.
+    fn field(self, image: &[u8], sheet: &[u8], place: usize, field: Field) -> Self
+        ensures { λ r. ⌜ Behind (rowText self) (fieldText (now (image .entry)) (now (sheet .entry)) place field) (rowText r) ⌝ }
+    {
+        let kind = field.kind;
+        let x = load(sheet, field.sheet, profile_of(kind).bytes).number();
+        let fits = in_range(kind, x);
+        if fits {
+            return self.cells(image, place, kind, Work::showing(kind, x));
+        }
+        self.repeat(b'#', width_of(kind))
+    }
+
+    // What the component at a place shows.
+    pub fn component(
+        self,
+        image: &[u8],
+        sheet: &[u8],
+        session: Session,
+        c: Component,
+        place: usize,
+    ) -> Self
+        ensures { λ r. ⌜ Behind (rowText self) (componentText (now (image .entry)) (now (sheet .entry)) session place c) (rowText r) ⌝ }
+    {
+        let field = c.field;
+        let kind = field.kind;
+        let mode = session.mode;
+        if c.holds {
+            let open = visits(mode, place);
+            if open {
+                return self.cells(image, place, kind, session.work);
+            }
+            return self.field(image, sheet, place, field);
+        }
+        self.push_all(string_bytes(image, place))
+    }
+}
+
+// Whether a visit of the component at a place is open.
+fn visits(mode: Mode, place: usize) -> bool
+    ensures { λ r. ⌜ r ≡ visiting mode place ⌝ }
+{
+    match mode {
+        Mode::Browsing => false,
+        Mode::Visit(p) => p.0 == place,
+        Mode::Password(_) => false,
+    }
+}
