@@ -1,20 +1,28 @@
 // Runs the cases that standard input holds, and prints a line for each: its name and what the calls answer. The gate compares the lines
 // with those that cases.py has by hand.
+mod sitting;
+
 use field::kind::ImagePlace;
+use handset::draw::draw;
 use handset::open::open;
 use handset::option::option_text;
 use laws::byte_at;
 use laws::word_at;
 use libc::STDIN_FILENO;
 use libc::STDOUT_FILENO;
+use picture::cursor::EditCursor;
+use session::session::Session;
 use walk::check::check;
 
-// A case: check an image, ask for an option's text, or open an image on a sheet of bytes 0xEE.
+// A case: check an image, ask for an option's text, open an image on a sheet of bytes 0xEE, or draw a session on a
+// picture of bytes 0xEE.
 const CHECK: u8 = 1;
 
 const TEXT: u8 = 2;
 
 const OPEN: u8 = 3;
+
+const DRAW: u8 = 4;
 
 // Reads so many bytes of the input to the start of a buffer that has room for them.
 fn read_start(buffer: &mut [u8], count: usize) {
@@ -50,7 +58,7 @@ fn run_text(image: &[u8], sheet: &[u8], place: usize, item: usize) {
     print_hex(text);
 }
 
-// Every byte of a sheet 0xEE.
+// Every byte of a sheet or picture 0xEE.
 fn fill(sheet: &mut [u8]) {
     let mut i = 0;
     while i < sheet.len() {
@@ -78,12 +86,62 @@ fn run_open(image: &[u8], sheet: &mut [u8], columns: usize, lines: usize) {
     print_hex(sheet);
 }
 
+fn print_place(row: usize, column: usize) {
+    io::print_decimal(STDOUT_FILENO, row as u64);
+    io::write_all(STDOUT_FILENO, b",");
+    io::print_decimal(STDOUT_FILENO, column as u64);
+}
+
+fn print_none() {
+    io::write_all(STDOUT_FILENO, b"-");
+}
+
+fn print_cursor(cursor: EditCursor) {
+    match cursor {
+        EditCursor::Nowhere => print_none(),
+        EditCursor::At { row, column } => print_place(row, column),
+    }
+}
+
+// The refusal, the edit cursor, and the picture afterwards.
+fn run_drawn(image: &[u8], sheet: &[u8], session: Session, picture: &mut [u8]) {
+    fill(&mut *picture);
+    let drawn = draw(image, sheet, session, &mut *picture);
+    let cursor = drawn.cursor;
+    io::print_decimal(STDOUT_FILENO, drawn.refusal as u64);
+    io::write_all(STDOUT_FILENO, b" ");
+    print_cursor(cursor);
+    io::write_all(STDOUT_FILENO, b" ");
+    print_hex(picture);
+}
+
+// The same on the start of a picture.
+fn run_drawn_on(image: &[u8], sheet: &[u8], session: Session, picture: &mut [u8], length: usize) {
+    if length <= picture.len() {
+        run_drawn(image, sheet, session, &mut picture[..length]);
+    }
+}
+
+// The input of Draw goes on: the sheet's bytes, the picture's length in two bytes, the session as `sitting` lays it out.
+fn run_draw(image: &[u8], sheet: &mut [u8]) {
+    io::read_full(STDIN_FILENO, &mut *sheet);
+    let mut count = [0u8; 2];
+    io::read_full(STDIN_FILENO, &mut count);
+    let mut record = [0u8; sitting::SIZE];
+    io::read_full(STDIN_FILENO, &mut record);
+    let session = sitting::session(&record);
+    let mut picture = [0u8; 256];
+    let length = word_at(&count, 0) as usize;
+    run_drawn_on(image, sheet, session, &mut picture, length);
+}
+
 // Runs an operation on image and sheet; Open takes its columns and lines in place of place and item.
 fn run(op: u8, image: &[u8], sheet: &mut [u8], place: usize, item: usize) {
     match op {
         CHECK => run_check(image, sheet),
         TEXT => run_text(image, sheet, place, item),
         OPEN => run_open(image, sheet, place, item),
+        DRAW => run_draw(image, sheet),
         _ => (),
     }
 }
