@@ -19,7 +19,7 @@ ownBytes f s = partAt (f .sheet .0) (sizeOf f) s
 unfoldable pub defaultWritten : Field → List ℕ → List ℕ
 defaultWritten f s = putAt (f .sheet .0) (bytesOf (f .default)) s
 
--- a visit begins with a copy of the field's bytes
+-- a visit begins with a copy of the field's value, or of its default where that is out of range; a trigger has none
 unfoldable pub begun : Field → List ℕ → Work
 begun f s = started (f .kind) (valueOf (sizeOf f) (ownBytes f s)) (f .default)
 

@@ -14,11 +14,14 @@ use Rattle.cmf.specs.Readers.{textBytes, headAt, componentAt}
 use Rattle.cmf.specs.Places.{componentsFrom, componentsOf, lineCount}
 use Rattle.cmf.specs.declared.head.Head.{Head}
 use Rattle.cmf.specs.declared.component.Component.{Component}
-use Rattle.session.specs.Fits.{mostColumns, cursorHead}
+use Rattle.session.specs.Fits.{mostColumns, cursorLine, cursorHead}
+use Rattle.session.specs.Browsing.{firstEditable, lineFromHere}
+use Rattle.session.specs.declared.browse.Found.{Found}
+use Rattle.session.specs.declared.session.Level.{Level}
 use Rattle.session.specs.declared.session.Session.{Session}
 use Rattle.picture.specs.Row.{kept, Behind}
 use Rattle.picture.specs.Texts.{blank, star, colon, componentText}
-use Rattle.picture.specs.Rows.{greater, anyEditable, editMark, lineNumber, moreMark, titleRow, dot, capitalP, passwordRow, dataText, submenuMark, lineRow}
+use Rattle.picture.specs.Rows.{greater, editMark, lineNumber, moreMark, titleRow, dot, capitalP, passwordRow, dataText, submenuMark, lineRow}
 use Rattle.picture.proofs.Writing.{kept-short, kept-join, behind, short, row-done}
 
 -- ---- cut or padded
@@ -90,34 +93,6 @@ module _ (im sheet : List ℕ) (s : Session) where
   unfolding dataText componentsFrom
   data-done x left p l h = let z : left ≡ 0 = omega arith in rw z (row-done x l)
 
--- ---- an editable one among them
-
-module _ (im : List ℕ) where
-  editable-one : (left p : ℕ) (c : Component) → 0 < left → c ≡ componentAt im p
-      → anyEditable im (componentsFrom im left p)
-      ≡ (if c .editable then true else anyEditable im (if c .last then [] else componentsFrom im (left - 1) (c .next)))
-  unfolding anyEditable componentsFrom
-  editable-one zero p c h e = absurd (omega arith)
-  editable-one (suc n) p c h e = let z : suc n - 1 ≡ n = omega arith in rw (z, e)
-
-  pub editable-here : (left p : ℕ) (c : Component) → 0 < left → c ≡ componentAt im p → c .editable ≡ true → anyEditable im (componentsFrom im left p) ≡ true
-  editable-here left p c h e t = editable-one left p c h e ∙ if-true _ _ t
-
-  pub editable-last : (left p : ℕ) (c : Component) → 0 < left → c ≡ componentAt im p → c .editable ≡ false → c .last ≡ true
-      → anyEditable im (componentsFrom im left p) ≡ false
-  unfolding anyEditable
-  editable-last left p c h e t l =
-      editable-one left p c h e ∙ if-false _ _ t ∙ ap (λ (r : List ℕ). anyEditable im r) (if-true _ _ l)
-
-  pub editable-next : (left p : ℕ) (c : Component) → 0 < left → c ≡ componentAt im p → c .editable ≡ false → c .last ≡ false
-      → anyEditable im (componentsFrom im (left - 1) (c .next)) ≡ anyEditable im (componentsFrom im left p)
-  editable-next left p c h e t l =
-      sym (editable-one left p c h e ∙ if-false _ _ t ∙ ap (λ (r : List ℕ). anyEditable im r) (if-false _ _ l))
-
-  pub editable-done : (left p : ℕ) → left ≤ 0 → anyEditable im (componentsFrom im left p) ≡ false
-  unfolding anyEditable componentsFrom
-  editable-done left p h = let z : left ≡ 0 = omega arith in rw z
-
 -- ---- rows, from what the callees ensure
 
 pub line-row-is : {x y u v z : List ℕ} {m e : ℕ} (im sheet : List ℕ) (s : Session) (k p : ℕ) (h : Head) → 2 ≤ s .columns → s .columns ≤ mostColumns
@@ -142,3 +117,16 @@ pub password-row-is : {x y u v r t o z : List ℕ} {d k : ℕ} (im : List ℕ) (
 unfolding passwordRow
 password-row-is im s h n a q e g f b c i j l m p =
     fitted-row (s .columns) a f (behind b (behind c (behind i (behind j (behind l m))))) p ∙ rw (g, e, q)
+
+module _ (im : List ℕ) (l : Level) (h : Head) (f : Found) (e : h ≡ cursorHead im l) (g : f ≡ firstEditable im (lineFromHere im (h .component))) where
+  first-is : f ≡ firstEditable im (componentsOf im (cursorLine im l))
+  unfolding componentsOf cursorHead
+  first-is = g ∙ ap (λ (k : Head). firstEditable im (lineFromHere im (k .component))) e
+
+  pub mark-edit : f .found ≡ true → colon ≡ editMark im l
+  unfolding editMark
+  mark-edit t = sym (rw (← first-is) (if-true _ _ t))
+
+  pub mark-none : f .found ≡ false → star ≡ editMark im l
+  unfolding editMark
+  mark-none t = sym (rw (← first-is) (if-false _ _ t))

@@ -16,8 +16,9 @@ use Rattle.cmf.specs.Places.{linesFrom, linesOf, componentsFrom, componentsOf, 
 use Rattle.cmf.proofs.Example.{image}
 use Rattle.session.specs.Session.{opened}
 use Rattle.session.specs.Fits.{cursorHead}
+use Rattle.session.specs.Browsing.{firstEditable}
 use Rattle.picture.specs.Texts.{cellsText, fieldText, visiting, componentText}
-use Rattle.picture.specs.Rows.{anyEditable, editMark, lineNumber, moreMark, titleRow, topRowIn, dataText, submenuMark, lineRow, rowAt, rowsFrom, rowsBelow, pictureOf}
+use Rattle.picture.specs.Rows.{editMark, lineNumber, moreMark, titleRow, topRowIn, dataText, submenuMark, lineRow, rowAt, rowsFrom, rowsBelow, pictureOf}
 
 -- a row of sixteen cells
 abbrev pub printed : List ℕ
@@ -28,5 +29,5 @@ printed =
     0x20 ∷ 0x20 ∷ 0x20 ∷ 0x20 ∷ 0x20 ∷ 0x20 ∷ 0x20 ∷ 0x20 ∷ 0x20 ∷ 0x20 ∷ 0x20 ∷ 0x20 ∷ 0x20 ∷ 0x20 ∷ 0x20 ∷ 0x20 ∷ []
 
 pub picture-printed : pictureOf image (0 ∷ []) (opened 16 4) ≡ printed
-unfolding if_then_else_ _and_ wordAt room fit fromLow numberFrom profileOf cellOf numberOf cellsOf inSpan within legalTo legal inRange workOf goodSettings settingsFit textsFrom itemFrom textBytes titleBy titleAt headBy headAt fixedBytes textCount given kindAt defaultPlace sheetPlaceAt laidOut componentBy componentAt linesFrom linesOf componentsFrom componentsOf lineFrom lineAt lineCount opened cursorHead cellsText fieldText visiting componentText anyEditable editMark lineNumber moreMark titleRow topRowIn dataText submenuMark lineRow rowAt rowsFrom rowsBelow pictureOf
+unfolding if_then_else_ _and_ wordAt room fit fromLow numberFrom profileOf cellOf numberOf cellsOf inSpan within legalTo legal inRange workOf goodSettings settingsFit textsFrom itemFrom textBytes titleBy titleAt headBy headAt fixedBytes textCount given kindAt defaultPlace sheetPlaceAt laidOut componentBy componentAt linesFrom linesOf componentsFrom componentsOf lineFrom lineAt lineCount opened cursorHead cellsText fieldText visiting componentText firstEditable editMark lineNumber moreMark titleRow topRowIn dataText submenuMark lineRow rowAt rowsFrom rowsBelow pictureOf
 picture-printed = refl

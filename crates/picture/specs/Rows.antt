@@ -1,6 +1,5 @@
 -- The picture (01, Picture), row by row.
 use Prim.Native.Nat.{ℕ, zero, suc, _+_, _-_, _/_, _%_}
-use mathlib.Core.Bool.{Bool, true, false}
 use mathlib.Core.List.{List, [], _∷_, _++_}
 use lib.ListN.{replicate}
 use Rattle.laws.specs.Choice.{if_then_else_, _=?_, _<?_, _≤?_}
@@ -10,6 +9,7 @@ use Rattle.cmf.specs.Readers.{textBytes, headAt, componentAt}
 use Rattle.cmf.specs.Places.{componentsOf, lineAt, lineCount}
 use Rattle.cmf.specs.declared.head.Head.{Head}
 use Rattle.session.specs.Fits.{cursorLine, cursorHead}
+use Rattle.session.specs.Browsing.{firstEditable}
 use Rattle.session.specs.declared.session.Level.{Level}
 use Rattle.session.specs.declared.session.Mode.{Mode}
 use Rattle.session.specs.declared.session.Mode.the-variants as mode
@@ -30,14 +30,9 @@ capitalP = 0x50
 
 -- ---- row 0
 
--- one of some components is editable
-unfoldable pub anyEditable : List ℕ → List ℕ → Bool
-anyEditable im [] = false
-anyEditable im (p ∷ ps) = if componentAt im p .editable then true else anyEditable im ps
-
 -- whether ENTER would open a visit on the cursor line
 unfoldable pub editMark : List ℕ → Level → ℕ
-editMark im l = if anyEditable im (componentsOf im (cursorLine im l)) then colon else star
+editMark im l = if firstEditable im (componentsOf im (cursorLine im l)) .found then colon else star
 
 -- a line's number, at most 99, right aligned in two cells
 unfoldable pub lineNumber : ℕ → List ℕ

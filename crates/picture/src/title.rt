@@ -2,49 +2,27 @@
 ghost use mathlib.Core.Path.{_≡_};
 ghost use mathlib.Core.List.{_++_};
 ghost use Prim.Native.Nat.{_+_, _/_, _≤_};
-ghost use Rattle.cmf.specs.Places.{componentsOf};
 ghost use Rattle.session.specs.Fits.{mostColumns};
 ghost use Rattle.laws.specs.Choice.{if_then_else_, _<?_};
 ghost use Rattle.picture.specs.Row.{rowText, Behind};
 ghost use Rattle.picture.specs.Texts.{blank, digit0};
-ghost use Rattle.picture.specs.Rows.{anyEditable, editMark, lineNumber, moreMark, titleRow, passwordRow, topRow};
+ghost use Rattle.picture.specs.Rows.{editMark, lineNumber, moreMark, titleRow, passwordRow, topRow};
 use crate::row::Row;
 use crate::text::less;
-use cmf::component::read_component;
-use cmf::head::read_head;
 use cmf::place::line_count;
 use cmf::text::text_bytes;
 use laws::byte_at;
+use session::browse::first_editable;
 use session::session::Level;
 use session::session::Mode;
 use session::session::Session;
 
-// Whether a line has an editable component.
-fn any_editable(image: &[u8], line: usize) -> bool
-    ensures { λ r. ⌜ r ≡ anyEditable (now (image .entry)) (componentsOf (now (image .entry)) line) ⌝ }
-{
-    let h = read_head(image, line);
-    let mut c = h.component;
-    let mut left = image.len() + 1;
-    while 0 < left {
-        let k = read_component(image, c);
-        if k.editable {
-            return true;
-        }
-        if k.last {
-            return false;
-        }
-        c = k.next;
-        left = left - 1;
-    }
-    false
-}
-
 fn edit_mark(image: &[u8], level: Level) -> u8
     ensures { λ r. ⌜ r ≡ editMark (now (image .entry)) level ⌝ }
 {
-    let editable = any_editable(image, level.cursor_line(image));
-    if editable {
+    let h = level.cursor_head(image);
+    let f = first_editable(image, h.component);
+    if f.found {
         return b':';
     }
     b'*'

@@ -1,3 +1,6 @@
 pub mod Sized
 pub mod Stepping
+pub mod Moving
+pub mod Entering
+pub mod Visiting
 pub mod Closed

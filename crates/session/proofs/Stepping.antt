@@ -18,7 +18,7 @@ use Rattle.session.specs.Session.{noLevel}
 use Rattle.session.specs.Fits.{levelFits, levelsFit, cursorHead, among, digitsTo}
 use Rattle.session.specs.declared.session.Level.{Level}
 
-and-none : (t : Bool) → t and false ≡ false
+pub and-none : (t : Bool) → t and false ≡ false
 unfolding _and_
 and-none true = refl
 and-none false = refl

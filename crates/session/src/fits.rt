@@ -37,7 +37,7 @@ pub fn shape_fits(columns: u8, lines: u8) -> bool
 }
 
 // One less, or 0.
-fn less_one(lines: u8) -> usize
+pub(crate) fn less_one(lines: u8) -> usize
     ensures { λ r. ⌜ r ≡ lines - 1 ⌝ }
 {
     if lines == 0 {

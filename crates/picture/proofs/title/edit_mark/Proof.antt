@@ -1,24 +1,21 @@
 -- Each return is the case of the definition that the tests on its path choose.
-use mathlib.Core.Path.{sym}
-use Rattle.laws.proofs.Cases.{if-true, if-false}
-use Rattle.picture.specs.Rows.{editMark}
+use Rattle.picture.proofs.Lines.{mark-edit, mark-none}
 use borrow.Author.Needs.{needs}
 use Rattle.picture.proofs.title.edit_mark.Statement.{statement}
 use Rattle.picture.proofs.title.edit_mark.Tie as tie
 
-cursor-line-requires : tie.Need-cursor-line-requires
-cursor-line-requires c κs = search needs
+cursor-head-requires : tie.Need-cursor-head-requires
+cursor-head-requires c κs = search needs
 
-any-editable-requires : tie.Need-any-editable-requires
-any-editable-requires c κs = search needs
+first-editable-requires : tie.Need-first-editable-requires
+first-editable-requires c κs = search needs
 
 returns : tie.Need-returns
-unfolding editMark
-returns c = rw (← c .before .before .cursor-line .ensures, ← c .before .any-editable .ensures) (sym (if-true _ _ (c .if1 .taken)))
+returns c = mark-edit _ _ _ _ (c .before .before .cursor-head .ensures) (c .before .first-editable .ensures) (c .if1 .taken)
 
 returns-2 : tie.Need-returns-2
-unfolding editMark
-returns-2 c = rw (← c .before .before .cursor-line .ensures, ← c .before .any-editable .ensures) (sym (if-false _ _ (c .if1 .left)))
+returns-2 c = mark-none _ _ _ _ (c .before .before .cursor-head .ensures) (c .before .first-editable .ensures) (c .if1 .left)
 
 pub edit-mark-spec : {M : Type 1} → statement M
-edit-mark-spec = tie.close (tie.spec cursor-line-requires any-editable-requires returns returns-2)
+edit-mark-spec =
+    tie.close (tie.spec cursor-head-requires first-editable-requires returns returns-2)

@@ -1,0 +1,47 @@
+-- What the callees ensure, put together.
+use mathlib.Core.Path.{_∙_}
+use Rattle.session.proofs.Entering.{top-shown, still-here}
+use borrow.Author.Needs.{needs}
+use Rattle.session.proofs.session.Session.browse_second.Statement.{statement}
+use Rattle.session.proofs.session.Session.browse_second.Tie as tie
+
+read-requires : tie.Need-read-requires
+read-requires c κs = search needs
+
+waited-requires : tie.Need-waited-requires
+waited-requires c κs = search needs
+
+later-requires : tie.Need-later-requires
+later-requires c κs = search needs
+
+passed-requires : tie.Need-passed-requires
+passed-requires c κs = search needs
+
+at-top-requires : tie.Need-at-top-requires
+at-top-requires c κs = search needs
+
+taken-requires : tie.Need-taken-requires
+taken-requires c κs = search needs
+
+returns : tie.Need-returns
+returns c = top-shown _ (c .before .before .before .before .before .before .before .before .args .self) _ (c .before .before .before .before .before .before .read .ensures) _ (c .before .before .before .before .later .ensures) _ _ (c .before .before .before .passed .ensures) (c .before .before .if1 .taken) (c .taken .ensures ∙ rw (c .before .at-top .ensures, c .before .before .before .before .before .waited .ensures))
+
+taken-requires-2 : tie.Need-taken-requires-2
+taken-requires-2 c κs = search needs
+
+returns-2 : tie.Need-returns-2
+returns-2 c = still-here _ (c .before .before .before .before .before .before .before .args .self) _ (c .before .before .before .before .before .read .ensures) _ (c .before .before .before .later .ensures) _ _ (c .before .before .passed .ensures) (c .before .if1 .left) (c .taken2 .ensures ∙ rw (c .before .before .before .before .waited .ensures))
+
+pub browse-second-spec : {M : Type 1} → statement M
+browse-second-spec =
+    tie.close
+    (tie.spec
+    read-requires
+    waited-requires
+    later-requires
+    passed-requires
+    at-top-requires
+    taken-requires
+    returns
+    taken-requires-2
+    returns-2)

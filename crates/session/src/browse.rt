@@ -1,0 +1,190 @@
+// Browsing: one method a key.
+ghost use mathlib.Core.Path.{_≡_};
+ghost use Prim.Native.Nat.{_-_, _<_};
+ghost use Rattle.session.specs.Browsing.{firstFor, cursorOn, upStep, downStep, leftStep, descended, rightStep, firstEditable, lineFromHere, visitAt, enterStep, browseStep};
+use crate::fits::less_one;
+use crate::session::Level;
+use crate::session::Mode;
+use crate::session::Session;
+use crate::step::Stepped;
+use cmf::component::read_component;
+use cmf::image::Image;
+use cmf::place::line_count;
+use field::kind::ImagePlace;
+
+// Whether there is an editable component, and the place of the first.
+pub struct Found {
+    pub found: bool,
+    pub place: usize,
+}
+
+// The first editable component from one on to the last of its line.
+pub fn first_editable(image: &[u8], from: usize) -> Found
+    ensures { λ r. ⌜ r ≡ firstEditable (now (image .entry)) (lineFromHere (now (image .entry)) from) ⌝ }
+{
+    let mut p = from;
+    let mut left = image.len() + 1;
+    while 0 < left {
+        let c = read_component(image, p);
+        if c.editable {
+            return Found {
+                found: true,
+                place: p,
+            };
+        }
+        if c.last {
+            return Found {
+                found: false,
+                place: 0,
+            };
+        }
+        p = c.next;
+        left = left - 1;
+    }
+    Found {
+        found: false,
+        place: 0,
+    }
+}
+
+// The first shown line once the cursor stands on a line.
+fn first_for(rows: usize, cursor: u8, first: u8) -> u8
+    requires { ⌜ cursor < 255 ⌝ }
+    ensures { λ r. ⌜ r ≡ firstFor rows cursor first ⌝ }
+{
+    if cursor < first {
+        return cursor;
+    }
+    let at = cursor as usize;
+    if at < rows {
+        return first;
+    }
+    if at - rows < first as usize {
+        return first;
+    }
+    (at + 1 - rows) as u8
+}
+
+impl Session {
+    fn cursor_on(self, cursor: u8) -> Self
+        requires { ⌜ cursor < 255 ⌝ }
+        ensures { λ r. ⌜ r ≡ cursorOn self cursor ⌝ }
+    {
+        let here = self.here;
+        let table = here.table;
+        let first = first_for(less_one(self.lines), cursor, here.first);
+        let level = Level {
+            table,
+            cursor,
+            first,
+        };
+        self.with_here(level)
+    }
+
+    fn up(self) -> Stepped
+        ensures { λ r. ⌜ r ≡ upStep self ⌝ }
+    {
+        let cursor = self.here.cursor;
+        if cursor == 0 {
+            return self.flash();
+        }
+        self.cursor_on(cursor - 1).taken()
+    }
+
+    fn down(self, image: &[u8]) -> Stepped
+        ensures { λ r. ⌜ r ≡ downStep (now (image .entry)) self ⌝ }
+    {
+        let cursor = self.here.cursor;
+        let count = line_count(image, self.here.table.0);
+        if cursor as usize + 1 < count {
+            return self.cursor_on(cursor + 1).taken();
+        }
+        self.flash()
+    }
+
+    fn left(mut self) -> Stepped
+        ensures { λ r. ⌜ r ≡ leftStep self ⌝ }
+    {
+        let outer = self.outer;
+        if outer == 0 {
+            return self.flash();
+        }
+        let level = self.above_at((outer - 1) as usize);
+        self.here = level;
+        self.outer = outer - 1;
+        self.taken()
+    }
+
+    // The table at a place shown at its first line.
+    pub(crate) fn descend(mut self, table: usize) -> Stepped
+        ensures { λ r. ⌜ r ≡ descended self table ⌝ }
+    {
+        let at = self.outer as usize;
+        if at + 1 < Image::MAX_DEPTH {
+            let here = self.here;
+            let level = Level {
+                table: ImagePlace(table),
+                cursor: 0,
+                first: 0,
+            };
+            self.above[at] = here;
+            self.here = level;
+            self.outer = self.outer + 1;
+            return self.taken();
+        }
+        self.flash()
+    }
+
+    fn right(self, image: &[u8]) -> Stepped
+        ensures { λ r. ⌜ r ≡ rightStep (now (image .entry)) self ⌝ }
+    {
+        let h = self.here.cursor_head(image);
+        if h.submenu {
+            if h.protected {
+                let work = self.work;
+                let typed = self.typed;
+                return self.doing(Mode::Password(0), work, typed).taken();
+            }
+            return self.descend(h.table);
+        }
+        self.flash()
+    }
+
+    // In a visit of the component at a place.
+    pub(crate) fn visit_at(self, image: &[u8], sheet: &[u8], place: usize) -> Self
+        ensures { λ r. ⌜ r ≡ visitAt (now (image .entry)) (now (sheet .entry)) self place ⌝ }
+    {
+        let c = read_component(image, place);
+        let field = c.field;
+        let work = field.begin(sheet);
+        let typed = self.typed;
+        self.doing(Mode::Visit(ImagePlace(place)), work, typed)
+    }
+
+    fn enter(self, image: &[u8], sheet: &[u8]) -> Stepped
+        ensures { λ r. ⌜ r ≡ enterStep (now (image .entry)) (now (sheet .entry)) self ⌝ }
+    {
+        let h = self.here.cursor_head(image);
+        let f = first_editable(image, h.component);
+        if f.found {
+            return self.visit_at(image, sheet, f.place).taken();
+        }
+        self.flash()
+    }
+
+    // A step while browsing.
+    pub(crate) fn browse(self, image: &[u8], sheet: &[u8], event: u8) -> Stepped
+        ensures { λ r. ⌜ r ≡ browseStep (now (image .entry)) (now (sheet .entry)) self event ⌝ }
+    {
+        let awake = self.awake();
+        match event {
+            Session::UP => awake.up(),
+            Session::DOWN => awake.down(image),
+            Session::LEFT => awake.left(),
+            Session::RIGHT => awake.right(image),
+            Session::ENTER => awake.enter(image, sheet),
+            Session::SECOND => self.browse_second(image),
+            _ => awake.flash(),
+        }
+    }
+}

@@ -1,0 +1,147 @@
+// A visit: what a key makes of the working copy, and what follows from it.
+ghost use mathlib.Core.Path.{_≡_};
+ghost use Rattle.field.specs.Sheet.{finishedIn};
+ghost use Rattle.session.specs.Steps.{visiting};
+ghost use Rattle.session.specs.Visits.{pressed, nextEditable, movedOn, followed, followedSheet, visitStep, visitSheet};
+ghost use Rattle.field.specs.declared.keys.Outcome.the-variants as outcome;
+use crate::browse::Found;
+use crate::browse::first_editable;
+use crate::session::Mode;
+use crate::session::Session;
+use crate::step::Answer;
+use crate::step::Stepped;
+use cmf::component::read_component;
+use field::keys::Outcome;
+use field::keys::Pressed;
+use field::kind::ImagePlace;
+use field::kind::Kind;
+use field::record::Field;
+use field::table::cell_of;
+use field::table::profile_of;
+use field::work::Work;
+
+// What a key makes of a working copy.
+fn press(kind: Kind, work: Work, event: u8) -> Pressed
+    ensures { λ r. ⌜ r ≡ pressed kind work event ⌝ }
+{
+    let p = profile_of(kind);
+    let c = cell_of(kind, work.at as usize);
+    match event {
+        Session::UP => work.up(p, c),
+        Session::DOWN => work.down(p, c),
+        Session::LEFT => work.left(p, c),
+        Session::RIGHT => work.right(p, c),
+        Session::ENTER => work.enter(kind),
+        0..=9 => work.digit(p, c, event),
+        _ => Pressed {
+            work,
+            outcome: Outcome::Flash,
+        },
+    }
+}
+
+// The editable component that comes behind the one at a place.
+fn next_editable(image: &[u8], place: usize) -> Found
+    ensures { λ r. ⌜ r ≡ nextEditable (now (image .entry)) place ⌝ }
+{
+    let c = read_component(image, place);
+    if c.last {
+        return Found {
+            found: false,
+            place: 0,
+        };
+    }
+    first_editable(image, c.next)
+}
+
+impl Session {
+    fn at_work(self, place: ImagePlace, work: Work) -> Self
+        ensures { λ r. ⌜ r ≡ visiting self place work ⌝ }
+    {
+        let typed = self.typed;
+        self.doing(Mode::Visit(place), work, typed)
+    }
+
+    // The next editable component of the line visited, or editing ended.
+    fn moved_on(self, image: &[u8], sheet: &[u8], place: usize) -> Self
+        ensures { λ r. ⌜ r ≡ movedOn (now (image .entry)) (now (sheet .entry)) self place ⌝ }
+    {
+        let f = next_editable(image, place);
+        if f.found {
+            return self.visit_at(image, sheet, f.place);
+        }
+        let work = self.work;
+        let typed = self.typed;
+        self.doing(Mode::Browsing, work, typed)
+    }
+
+    // The last ENTER: the field's own bytes are stored.
+    fn finish(
+        self,
+        image: &[u8],
+        sheet: &mut [u8],
+        place: ImagePlace,
+        field: Field,
+        work: Work,
+    ) -> Stepped
+        ensures { λ r. ⌜ r ≡ followed (now (image .entry)) (now (sheet .entry)) self place field work outcome.Done ⌝ }
+        ensures { λ _. ⌜ now (sheet .exit) ≡ finishedIn field work (now (sheet .entry)) ⌝ }
+    {
+        field.finish(&mut *sheet, work);
+        let session = self.moved_on(image, &*sheet, place.0);
+        Stepped {
+            session,
+            answer: Answer::Finished(place),
+        }
+    }
+
+    // What follows from a key's outcome.
+    fn follow(
+        self,
+        image: &[u8],
+        sheet: &mut [u8],
+        place: ImagePlace,
+        field: Field,
+        pressed: Pressed,
+    ) -> Stepped
+        ensures { λ r. ⌜ r ≡ followed (now (image .entry)) (now (sheet .entry)) self place field (pressed .work) (pressed .outcome) ⌝ }
+        ensures { λ _. ⌜ now (sheet .exit) ≡ followedSheet (now (sheet .entry)) field (pressed .work) (pressed .outcome) ⌝ }
+    {
+        let work = pressed.work;
+        let outcome = pressed.outcome;
+        match outcome {
+            Outcome::Taken => self.at_work(place, work).taken(),
+            Outcome::Flash => self.flash(),
+            Outcome::NextPart => self.at_work(place, work).taken(),
+            Outcome::Done => self.finish(image, &mut *sheet, place, field, work),
+            Outcome::Fired => Stepped {
+                session: self,
+                answer: Answer::Fired(place),
+            },
+            Outcome::Passed => self.moved_on(image, &*sheet, place.0).taken(),
+        }
+    }
+
+    // A step in a visit of the component at a place.
+    pub(crate) fn visit(
+        self,
+        image: &[u8],
+        sheet: &mut [u8],
+        place: ImagePlace,
+        event: u8,
+    ) -> Stepped
+        ensures { λ r. ⌜ r ≡ visitStep (now (image .entry)) (now (sheet .entry)) self place event ⌝ }
+        ensures { λ _. ⌜ now (sheet .exit) ≡ visitSheet (now (image .entry)) (now (sheet .entry)) self place event ⌝ }
+    {
+        if event == Session::SECOND {
+            return self.taken();
+        }
+        let c = read_component(image, place.0);
+        let field = c.field;
+        let kind = field.kind;
+        let work = self.work;
+        let pressed = press(kind, work, event);
+        self.awake()
+            .follow(image, &mut *sheet, place, field, pressed)
+    }
+}
