@@ -1,10 +1,9 @@
 -- Draw, one case at a time, over variables.
-use Prim.Native.Nat.{ℕ, _*_, _≤_}
+use Prim.Native.Nat.{ℕ, _*_}
 use mathlib.Core.Path.{_≡_, sym, ap, _∙_}
 use mathlib.Core.Bool.{true, false}
 use mathlib.Core.List.{List, []}
 use native.Mathlib.Omega.{arith}
-use native.Mathlib.Nat.{mul-le-mul}
 use lib.ListN.{length}
 use borrow.Author.Tests.{eq-eqb, ne-eqb, eqb-true}
 use Rattle.laws.specs.Choice.{_=?_}
@@ -12,7 +11,8 @@ use Rattle.laws.proofs.Cases.{if-eq, if-ne, and-l}
 use Rattle.walk.specs.Check.{State, checked, refusalOf}
 use Rattle.session.specs.Fits.{shapeFits, sessionFits}
 use Rattle.session.specs.declared.session.Session.{Session}
-use Rattle.picture.specs.Rows.{pictureOf}
+use Rattle.picture.specs.Rows.{pictureOf, filled}
+use Rattle.picture.proofs.Filling.{is-filled}
 use Rattle.picture.specs.Cursor.{editCursor}
 use Rattle.handset.specs.Refusals.{_before_, _unless_}
 use Rattle.handset.proofs.Ordering.{first-given, next-given, holding, failing, none-before, none-unless}
@@ -43,10 +43,6 @@ module _ (im : List ℕ) (sheet : ℕ) (s : Session) (n : ℕ) (c : State) (e : 
 
   pub bad-picture : c .walk .refusal ≡ 0 → sessionFits im s ≡ true → (n ≡ s .columns * s .lines → ⊥) → 1 ≡ drawRefusal im sheet s n
   bad-picture h f l = sym (behind-session h f ∙ failing 1 _ (ne-eqb n (s .columns * s .lines) l))
-
--- the picture of a display of at most 255 columns and lines
-pub area : (a b : ℕ) → a ≤ 255 → b ≤ 255 → a * b ≤ 65025
-area a b h k = mul-le-mul h k
 
 -- what a Draw that is not refused has tested
 pub record Granted (im : List ℕ) (sheet : ℕ) (s : Session) (n : ℕ) : Type 0 where
@@ -86,3 +82,9 @@ module _ (im sheet : List ℕ) (s : Session) (d : List ℕ) (k : ℕ) (e : k ≡
   pub drawn-picture : k ≡ 0 → pictureOf im sheet s ≡ drawnPicture im sheet s d
   unfolding drawnPicture
   drawn-picture h = sym (rw (← e) (if-eq k 0 _ _ h))
+
+  -- what is not refused has the shape and the size that the picture asks for
+  pub drawn-filled : k ≡ 0 → filled im sheet s d ≡ drawnPicture im sheet s d
+  drawn-filled h =
+      let g = granted im (length sheet) s (length d) (sym e ∙ h) in
+      sym (is-filled im sheet s d (shape-fits im s (g .fits)) (g .size)) ∙ drawn-picture h

@@ -4,12 +4,13 @@ use mathlib.Core.Path.{_≡_, refl, sym, ap, _∙_}
 use mathlib.Core.Bool.{Bool, true, false}
 use mathlib.Core.List.{List, [], _∷_, _++_}
 use native.Mathlib.Omega.{arith}
+use native.Mathlib.Nat.{mul-le-mul}
 use lib.ListN.{length, length-append}
 use borrow.Author.Tests.{leb-true, leb-false}
 use Rattle.laws.specs.Choice.{if_then_else_, _<?_, _≤?_}
 use Rattle.laws.specs.Overwrite.{fit, over}
 use Rattle.laws.proofs.Overwriting.{length-fit, over-next, over-nil, over-all}
-use Rattle.laws.proofs.Cases.{if-ind, by-test, and-l, and-r}
+use Rattle.laws.proofs.Cases.{if-ind, if-true, if-false, if-eq, if-ne, and-l, and-r}
 use Rattle.cmf.specs.Readers.{textBytes, headAt}
 use Rattle.cmf.specs.Places.{componentsOf}
 use Rattle.cmf.specs.declared.head.Head.{Head}
@@ -18,7 +19,7 @@ use Rattle.session.specs.declared.session.Session.{Session}
 use Rattle.session.specs.declared.session.Mode.{Mode}
 use Rattle.session.specs.declared.session.Mode.the-variants as mode
 use Rattle.picture.specs.Texts.{blank}
-use Rattle.picture.specs.Rows.{lineNumber, titleRow, passwordRow, topRowIn, topRow, dataText, submenuMark, lineRow, rowAt, rowsFrom, rowsBelow, pictureOf}
+use Rattle.picture.specs.Rows.{lineNumber, titleRow, passwordRow, topRowIn, topRow, dataText, submenuMark, lineRow, rowAt, rowsFrom, rowsBelow, pictureOf, filled}
 
 -- what a legal shape says
 pub record Shape (columns lines : ℕ) : Type 0 where
@@ -108,3 +109,22 @@ picture-whole im sheet s d e f row h l n a b g =
     let z : 0 + length (topRow im s) ≡ s .columns = omega arith in
     g
     ∙ rw (b, a) (ap (λ (i : ℕ). over (over d 0 (topRow im s)) i (rowsBelow im sheet s)) (sym z) ∙ over-next d 0 (topRow im s) (rowsBelow im sheet s) ∙ over-all d (topRow im s ++ rowsBelow im sheet s) (length-picture im sheet s h l ∙ sym n))
+
+-- the picture of a display of at most 255 columns and lines
+pub area : (a b : ℕ) → a ≤ 255 → b ≤ 255 → a * b ≤ 65025
+area a b h k = mul-le-mul h k
+
+-- ---- where it is written, and where not
+
+module _ (im sheet : List ℕ) (s : Session) (d : List ℕ) where
+  pub no-shape : shapeFits (s .columns) (s .lines) ≡ false → d ≡ filled im sheet s d
+  unfolding filled
+  no-shape h = sym (if-false _ _ h)
+
+  pub no-size : shapeFits (s .columns) (s .lines) ≡ true → (length d ≡ s .columns * s .lines → ⊥) → d ≡ filled im sheet s d
+  unfolding filled
+  no-size h n = sym (if-true _ _ h ∙ if-ne (length d) (s .columns * s .lines) _ _ n)
+
+  pub is-filled : shapeFits (s .columns) (s .lines) ≡ true → length d ≡ s .columns * s .lines → pictureOf im sheet s ≡ filled im sheet s d
+  unfolding filled
+  is-filled h n = sym (if-true _ _ h ∙ if-eq (length d) (s .columns * s .lines) _ _ n)

@@ -21,8 +21,9 @@ use Rattle.cmf.specs.Readers.{textBytes}
 use Rattle.cmf.specs.declared.component.Component.{Component}
 use Rattle.session.specs.declared.session.Session.{Session}
 use Rattle.session.specs.Fits.{mostColumns}
+use Rattle.session.specs.Passwords.{digit0}
 use Rattle.picture.specs.Row.{kept, Behind}
-use Rattle.picture.specs.Texts.{blank, dash, colon, digit0, digitChar, signChar, digitCells, numeralText, decimal, countText, alignedRight, paddedRight, timeText, dateText, cellsText, widthOf, hash, sheetNumber, fieldText, visiting, componentText}
+use Rattle.picture.specs.Texts.{blank, dash, colon, digitChar, signChar, digitCells, numeralText, decimal, countText, alignedRight, paddedRight, timeText, dateText, cellsText, widthOf, hash, sheetNumber, fieldText, visiting, componentText}
 use Rattle.picture.proofs.Writing.{behind, same, push-turn, row-done}
 
 -- the next digit cell

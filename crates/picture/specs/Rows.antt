@@ -1,20 +1,21 @@
 -- The picture (01, Picture), row by row.
-use Prim.Native.Nat.{ℕ, zero, suc, _+_, _-_, _/_, _%_}
+use Prim.Native.Nat.{ℕ, zero, suc, _+_, _-_, _*_, _/_, _%_}
 use mathlib.Core.List.{List, [], _∷_, _++_}
-use lib.ListN.{replicate}
+use lib.ListN.{length, replicate}
 use Rattle.laws.specs.Choice.{if_then_else_, _=?_, _<?_, _≤?_}
 use Rattle.laws.specs.Bytes.{byteAt}
 use Rattle.laws.specs.Overwrite.{fit}
 use Rattle.cmf.specs.Readers.{textBytes, headAt, componentAt}
 use Rattle.cmf.specs.Places.{componentsOf, lineAt, lineCount}
 use Rattle.cmf.specs.declared.head.Head.{Head}
-use Rattle.session.specs.Fits.{cursorLine, cursorHead}
+use Rattle.session.specs.Fits.{shapeFits, cursorLine, cursorHead}
 use Rattle.session.specs.Browsing.{firstEditable}
+use Rattle.session.specs.Passwords.{digit0}
 use Rattle.session.specs.declared.session.Level.{Level}
 use Rattle.session.specs.declared.session.Mode.{Mode}
 use Rattle.session.specs.declared.session.Mode.the-variants as mode
 use Rattle.session.specs.declared.session.Session.{Session}
-use Rattle.picture.specs.Texts.{blank, star, plus, colon, digit0, componentText}
+use Rattle.picture.specs.Texts.{blank, star, plus, colon, componentText}
 
 abbrev pub greater : ℕ
 greater = 0x3e
@@ -104,3 +105,8 @@ rowsBelow im sheet s =
 -- row after row, each from the left
 unfoldable pub pictureOf : List ℕ → List ℕ → Session → List ℕ
 pictureOf im sheet s = topRow im s ++ rowsBelow im sheet s
+
+-- bytes into which the picture is written: they stay as they are where no display has the session's shape, or where they are not as many as it has cells
+unfoldable pub filled : List ℕ → List ℕ → Session → List ℕ → List ℕ
+filled im sheet s d =
+    if shapeFits (s .columns) (s .lines) then (if length d =? s .columns * s .lines then pictureOf im sheet s else d) else d

@@ -16,6 +16,7 @@ use Rattle.field.specs.declared.record.Field.{Field}
 use Rattle.field.specs.declared.work.Work.{Work}
 use Rattle.cmf.specs.Readers.{textBytes, itemPlace}
 use Rattle.cmf.specs.declared.component.Component.{Component}
+use Rattle.session.specs.Passwords.{digit0}
 use Rattle.session.specs.declared.session.Mode.{Mode}
 use Rattle.session.specs.declared.session.Mode.the-variants as mode
 use Rattle.session.specs.declared.session.Session.{Session}
@@ -39,9 +40,6 @@ dash = 0x2d
 
 abbrev pub colon : ℕ
 colon = 0x3a
-
-abbrev pub digit0 : ℕ
-digit0 = 0x30
 
 abbrev pub letterA : ℕ
 letterA = 0x41

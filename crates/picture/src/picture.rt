@@ -6,13 +6,14 @@ ghost use lib.ListN.{length};
 ghost use Rattle.laws.specs.Overwrite.{over};
 ghost use Rattle.session.specs.Fits.{mostColumns, shapeFits};
 ghost use Rattle.picture.specs.Row.{rowText};
-ghost use Rattle.picture.specs.Rows.{rowAt, rowsBelow, pictureOf};
+ghost use Rattle.picture.specs.Rows.{rowAt, rowsBelow, pictureOf, filled};
 use crate::line::line_row;
 use crate::row::Row;
 use crate::title::top_row;
 use cmf::head::read_head;
 use cmf::place::line_at;
 use cmf::place::line_count;
+use session::fits::shape_fits;
 use session::session::Session;
 
 // The row of line k of a table of count lines; the line stands at p.
@@ -49,11 +50,25 @@ fn put_rows(image: &[u8], sheet: &[u8], session: Session, picture: &mut [u8])
     }
 }
 
-// Writes the picture.
-pub fn put_picture(image: &[u8], sheet: &[u8], session: Session, picture: &mut [u8])
+// Writes the picture of a display of a legal shape into as many bytes as it has cells.
+fn write_picture(image: &[u8], sheet: &[u8], session: Session, picture: &mut [u8])
     requires { ⌜ (shapeFits (session .columns) (session .lines) ≡ true) × (length (now picture) ≡ session .columns * session .lines) ⌝ }
     ensures { λ _. ⌜ now (picture .exit) ≡ pictureOf (now (image .entry)) (now (sheet .entry)) session ⌝ }
 {
     top_row(image, session).put(&mut *picture, 0);
     put_rows(image, sheet, session, &mut *picture);
+}
+
+// Writes the picture; nothing, where no display has the session's shape or the picture has another number of bytes.
+pub fn put_picture(image: &[u8], sheet: &[u8], session: Session, picture: &mut [u8])
+    ensures { λ _. ⌜ now (picture .exit) ≡ filled (now (image .entry)) (now (sheet .entry)) session (now (picture .entry)) ⌝ }
+{
+    let shape = shape_fits(session.columns, session.lines);
+    if !shape {
+        return;
+    }
+    if picture.len() != session.columns as usize * session.lines as usize {
+        return;
+    }
+    write_picture(image, sheet, session, &mut *picture);
 }

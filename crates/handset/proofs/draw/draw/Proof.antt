@@ -1,7 +1,7 @@
 -- A refusal, or the picture and the cursor: the cases of the call.
 use mathlib.Core.Path.{sym, _∙_}
 use Rattle.picture.specs.Cursor.{told}
-use Rattle.handset.proofs.Drawing.{granted, shape-fits, refused-cursor, refused-picture, drawn-cursor, drawn-picture}
+use Rattle.handset.proofs.Drawing.{refused-cursor, refused-picture, drawn-cursor, drawn-filled}
 use borrow.Author.Needs.{needs}
 use Rattle.handset.proofs.draw.draw.Statement.{statement}
 use Rattle.handset.proofs.draw.draw.Tie as tie
@@ -14,7 +14,7 @@ unfolding told
 returns c = (c .before .draw-refusal .ensures, (refused-cursor (c .before .before .before .before .before .args .image .now) (c .before .before .before .before .before .args .sheet .now) (c .before .before .before .before .before .args .session) (c .before .before .before .before .before .args .picture .now) _ (c .before .draw-refusal .ensures) (c .if1 .taken), refused-picture (c .before .before .before .before .before .args .image .now) (c .before .before .before .before .before .args .sheet .now) (c .before .before .before .before .before .args .session) (c .before .before .before .before .before .args .picture .now) _ (c .before .draw-refusal .ensures) (c .if1 .taken)))
 
 put-picture-requires : tie.Need-put-picture-requires
-put-picture-requires c κs = let g = granted _ _ _ _ (sym (c .before .before .draw-refusal .ensures) ∙ c .before .if1 .left) in (shape-fits _ _ (g .fits), g .size)
+put-picture-requires c κs = search needs
 
 edit-cursor-requires : tie.Need-edit-cursor-requires
 edit-cursor-requires c κs = search needs
@@ -23,7 +23,7 @@ same-length : tie.Need-same-length
 same-length c = search needs
 
 returns-2 : tie.Need-returns-2
-returns-2 c = (sym (c .before .before .before .before .before .if1 .left) ∙ c .before .before .before .before .before .before .draw-refusal .ensures, (c .edit-cursor .ensures ∙ drawn-cursor (c .before .before .before .before .before .before .before .before .before .before .args .image .now) (c .before .before .before .before .before .before .before .before .before .before .args .sheet .now) (c .before .before .before .before .before .before .before .before .before .before .args .session) (c .before .before .before .before .before .before .before .before .before .before .args .picture .now) _ (c .before .before .before .before .before .before .draw-refusal .ensures) (c .before .before .before .before .before .if1 .left), c .before .before .before .put-picture .ensures ∙ drawn-picture (c .before .before .before .before .before .before .before .before .before .before .args .image .now) (c .before .before .before .before .before .before .before .before .before .before .args .sheet .now) (c .before .before .before .before .before .before .before .before .before .before .args .session) (c .before .before .before .before .before .before .before .before .before .before .args .picture .now) _ (c .before .before .before .before .before .before .draw-refusal .ensures) (c .before .before .before .before .before .if1 .left)))
+returns-2 c = (sym (c .before .before .before .before .before .if1 .left) ∙ c .before .before .before .before .before .before .draw-refusal .ensures, (c .edit-cursor .ensures ∙ drawn-cursor (c .before .before .before .before .before .before .before .before .before .before .args .image .now) (c .before .before .before .before .before .before .before .before .before .before .args .sheet .now) (c .before .before .before .before .before .before .before .before .before .before .args .session) (c .before .before .before .before .before .before .before .before .before .before .args .picture .now) _ (c .before .before .before .before .before .before .draw-refusal .ensures) (c .before .before .before .before .before .if1 .left), c .before .before .before .put-picture .ensures ∙ drawn-filled (c .before .before .before .before .before .before .before .before .before .before .args .image .now) (c .before .before .before .before .before .before .before .before .before .before .args .sheet .now) (c .before .before .before .before .before .before .before .before .before .before .args .session) (c .before .before .before .before .before .before .before .before .before .before .args .picture .now) _ (c .before .before .before .before .before .before .draw-refusal .ensures) (c .before .before .before .before .before .if1 .left)))
 
 pub draw-spec : {M : Type 1} → statement M
 draw-spec =

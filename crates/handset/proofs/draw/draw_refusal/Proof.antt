@@ -3,7 +3,8 @@ use Prim.Native.Nat.{_≤_}
 use native.Mathlib.Omega.{arith}
 use borrow.Author.Tests.{not-true, not-false}
 use Rattle.laws.proofs.Cases.{via}
-use Rattle.handset.proofs.Drawing.{bad-image, bad-session, good-picture, bad-picture, area}
+use Rattle.picture.proofs.Filling.{area}
+use Rattle.handset.proofs.Drawing.{bad-image, bad-session, good-picture, bad-picture}
 use borrow.Author.Needs.{needs}
 use Rattle.handset.proofs.draw.draw_refusal.Statement.{statement}
 use Rattle.handset.proofs.draw.draw_refusal.Tie as tie
