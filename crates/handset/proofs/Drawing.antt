@@ -5,44 +5,17 @@ use mathlib.Core.Bool.{true, false}
 use mathlib.Core.List.{List, []}
 use native.Mathlib.Omega.{arith}
 use lib.ListN.{length}
-use borrow.Author.Tests.{eq-eqb, ne-eqb, eqb-true}
+use borrow.Author.Tests.{eqb-true}
 use Rattle.laws.specs.Choice.{_=?_}
 use Rattle.laws.proofs.Cases.{if-eq, if-ne, and-l}
-use Rattle.walk.specs.Check.{State, checked, refusalOf}
+use Rattle.walk.specs.Check.{refusalOf}
 use Rattle.session.specs.Fits.{shapeFits, sessionFits}
 use Rattle.session.specs.declared.session.Session.{Session}
 use Rattle.picture.specs.Rows.{pictureOf, filled}
 use Rattle.picture.proofs.Filling.{is-filled}
 use Rattle.picture.specs.Cursor.{editCursor}
-use Rattle.handset.specs.Refusals.{_before_, _unless_}
-use Rattle.handset.proofs.Ordering.{first-given, next-given, holding, failing, none-before, none-unless}
+use Rattle.handset.proofs.Ordering.{none-before, none-unless, session-granted}
 use Rattle.handset.specs.Draw.{drawRefusal, drawCursor, drawnPicture}
-
-module _ (im : List ℕ) (sheet : ℕ) (s : Session) (n : ℕ) (c : State) (e : c ≡ checked im sheet) where
-  refusal-of : refusalOf im sheet ≡ c .walk .refusal
-  unfolding refusalOf
-  refusal-of = ap (λ (x : State). x .walk .refusal) (sym e)
-
-  pub bad-image : (c .walk .refusal ≡ 0 → ⊥) → c .walk .refusal ≡ drawRefusal im sheet s n
-  unfolding drawRefusal
-  bad-image h = sym (rw refusal-of (first-given (c .walk .refusal) _ h))
-
-  behind-image : c .walk .refusal ≡ 0 → drawRefusal im sheet s n ≡ (12 unless sessionFits im s) before (1 unless (n =? s .columns * s .lines))
-  unfolding drawRefusal
-  behind-image h = next-given (refusalOf im sheet) _ (refusal-of ∙ h)
-
-  pub bad-session : c .walk .refusal ≡ 0 → sessionFits im s ≡ false → 12 ≡ drawRefusal im sheet s n
-  bad-session h f =
-      sym (behind-image h ∙ rw (failing 12 (sessionFits im s) f) (first-given 12 _ (λ z. omega arith)))
-
-  behind-session : c .walk .refusal ≡ 0 → sessionFits im s ≡ true → drawRefusal im sheet s n ≡ 1 unless (n =? s .columns * s .lines)
-  behind-session h f = behind-image h ∙ next-given _ _ (holding 12 (sessionFits im s) f)
-
-  pub good-picture : c .walk .refusal ≡ 0 → sessionFits im s ≡ true → n ≡ s .columns * s .lines → 0 ≡ drawRefusal im sheet s n
-  good-picture h f l = sym (behind-session h f ∙ holding 1 _ (eq-eqb n (s .columns * s .lines) l))
-
-  pub bad-picture : c .walk .refusal ≡ 0 → sessionFits im s ≡ true → (n ≡ s .columns * s .lines → ⊥) → 1 ≡ drawRefusal im sheet s n
-  bad-picture h f l = sym (behind-session h f ∙ failing 1 _ (ne-eqb n (s .columns * s .lines) l))
 
 -- what a Draw that is not refused has tested
 pub record Granted (im : List ℕ) (sheet : ℕ) (s : Session) (n : ℕ) : Type 0 where
@@ -54,11 +27,11 @@ pub granted : (im : List ℕ) (sheet : ℕ) (s : Session) (n : ℕ) → drawRefu
 unfolding drawRefusal
 granted im sheet s n h =
     let a = none-before _ _ h in
-    let b = none-before _ _ (a .1) in
+    let b = session-granted im sheet s (a .0) in
     record {
-      accepted = a .0;
-      fits = none-unless 12 (sessionFits im s) (λ z. omega arith) (b .0);
-      size = eqb-true n (s .columns * s .lines) (none-unless 1 _ (λ z. omega arith) (b .1));
+      accepted = b .accepted;
+      fits = b .fits;
+      size = eqb-true n (s .columns * s .lines) (none-unless 1 _ (λ z. omega arith) (a .1));
     }
 
 pub shape-fits : (im : List ℕ) (s : Session) → sessionFits im s ≡ true → shapeFits (s .columns) (s .lines) ≡ true

@@ -3,6 +3,7 @@ pub mod Finding
 pub mod Items
 pub mod Opening
 pub mod Defaults
+pub mod Stepping
 pub mod Drawing
 pub mod Printed
 pub mod Widths

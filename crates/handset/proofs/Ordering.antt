@@ -1,11 +1,16 @@
 -- Which of several refusals in order is given.
 use Prim.Native.Nat.{ℕ}
-use mathlib.Core.Path.{_≡_, refl}
+use mathlib.Core.Path.{_≡_, refl, sym, _∙_}
 use mathlib.Core.Bool.{Bool, true, false}
+use mathlib.Core.List.{List}
+use native.Mathlib.Omega.{arith}
 use borrow.Author.Tests.{eqb-true, eqb-false}
 use Rattle.laws.specs.Choice.{if_then_else_, _=?_}
 use Rattle.laws.proofs.Cases.{if-true, if-false, if-eq, if-ne, if-ind}
-use Rattle.handset.specs.Refusals.{_before_, _unless_}
+use Rattle.walk.specs.Check.{refusalOf}
+use Rattle.session.specs.Fits.{sessionFits}
+use Rattle.session.specs.declared.session.Session.{Session}
+use Rattle.handset.specs.Refusals.{_before_, _unless_, sessionRefusal}
 
 pub first-given : (a b : ℕ) → (a ≡ 0 → ⊥) → a before b ≡ a
 unfolding _before_
@@ -23,6 +28,17 @@ pub failing : (k : ℕ) (t : Bool) → t ≡ false → k unless t ≡ k
 unfolding _unless_
 failing k t h = if-false _ _ h
 
+-- one test more behind those that give r, which a call knows as k: what the call answers in each case
+module _ (k r j : ℕ) (t : Bool) (e : k ≡ r) where
+  pub refused-before : (k ≡ 0 → ⊥) → k ≡ r before (j unless t)
+  refused-before h = sym (rw (← e) (first-given k _ h))
+
+  pub refused-here : k ≡ 0 → t ≡ false → j ≡ r before (j unless t)
+  refused-here h f = sym (rw (← e) (next-given k _ h ∙ failing j t f))
+
+  pub not-refused : k ≡ 0 → t ≡ true → 0 ≡ r before (j unless t)
+  not-refused h f = sym (rw (← e) (next-given k _ h ∙ holding j t f))
+
 -- no refusal of two is none of each
 pub none-before : (a b : ℕ) → a before b ≡ 0 → (a ≡ 0) × (b ≡ 0)
 unfolding _before_
@@ -33,3 +49,14 @@ pub none-unless : (k : ℕ) (t : Bool) → (k ≡ 0 → ⊥) → k unless t ≡ 
 unfolding _unless_ if_then_else_
 none-unless k true h z = refl
 none-unless k false h z = absurd (h z)
+
+-- what has been tested where image, sheet and session are not refused
+pub record Granted (im : List ℕ) (sheet : ℕ) (s : Session) : Type 0 where
+  pub accepted : refusalOf im sheet ≡ 0
+  pub fits : sessionFits im s ≡ true
+
+pub session-granted : (im : List ℕ) (sheet : ℕ) (s : Session) → sessionRefusal im sheet s ≡ 0 → Granted im sheet s
+unfolding sessionRefusal
+session-granted im sheet s h =
+    let a = none-before _ _ h in
+    record { accepted = a .0; fits = none-unless 12 (sessionFits im s) (λ z. omega arith) (a .1) }

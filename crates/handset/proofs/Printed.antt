@@ -21,7 +21,7 @@ use Rattle.walk.specs.Check.{fine, andThen, padded, takeTitle, agrees, linePlac
 use Rattle.session.specs.Session.{opened}
 use Rattle.session.specs.Fits.{shapeFits, cursorHead, levelFits, levelsFit, tablesFit, modeFits, sessionFits}
 use Rattle.picture.proofs.Printed.{printed, picture-printed}
-use Rattle.handset.specs.Refusals.{_before_, _unless_}
+use Rattle.handset.specs.Refusals.{_before_, _unless_, sessionRefusal}
 use Rattle.handset.specs.Open.{openRefusal, openAnswer, defaultsWritten, openSheet}
 use Rattle.handset.specs.Draw.{drawRefusal, drawnPicture}
 use Rattle.handset.proofs.Drawing.{drawn-picture}
@@ -36,7 +36,7 @@ unfolding openSheet defaultsWritten defaultWritten putAt openRefusal _before_ _u
 defaults b = refl
 
 draws : drawRefusal image 1 (opened 16 4) 64 ≡ 0
-unfolding drawRefusal _before_ _unless_ if_then_else_ _and_ wordAt room fit fromLow numberFrom profileOf cellOf numberOf cellsOf inSpan within legalTo legal inRange goodSettings settingsFit textsFrom titleBy titleAt headBy headAt fixedBytes textCount given kindAt defaultPlace sheetPlaceAt laidOut componentBy componentAt linesFrom linesOf componentsFrom componentsOf lineFrom lineAt lineCount fine andThen padded takeTitle agrees linePlaced countLine takeLine inSheet apart apartFrom takeField takeComponent onComponent onComponents onHead onTitle onSubmenu onBody onLine onLines onTable walked prologCode checked refusalOf opened shapeFits cursorHead levelFits levelsFit tablesFit modeFits sessionFits
+unfolding drawRefusal sessionRefusal _before_ _unless_ if_then_else_ _and_ wordAt room fit fromLow numberFrom profileOf cellOf numberOf cellsOf inSpan within legalTo legal inRange goodSettings settingsFit textsFrom titleBy titleAt headBy headAt fixedBytes textCount given kindAt defaultPlace sheetPlaceAt laidOut componentBy componentAt linesFrom linesOf componentsFrom componentsOf lineFrom lineAt lineCount fine andThen padded takeTitle agrees linePlaced countLine takeLine inSheet apart apartFrom takeField takeComponent onComponent onComponents onHead onTitle onSubmenu onBody onLine onLines onTable walked prologCode checked refusalOf opened shapeFits cursorHead levelFits levelsFit tablesFit modeFits sessionFits
 draws = refl
 
 pub printed-by-the-calls : (b : ℕ) (d : List ℕ) → length d ≡ 64

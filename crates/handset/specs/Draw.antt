@@ -3,16 +3,14 @@ use Prim.Native.Nat.{ℕ, _*_}
 use mathlib.Core.List.{List, []}
 use lib.ListN.{length}
 use Rattle.laws.specs.Choice.{if_then_else_, _=?_}
-use Rattle.walk.specs.Check.{refusalOf}
-use Rattle.session.specs.Fits.{sessionFits}
 use Rattle.session.specs.declared.session.Session.{Session}
 use Rattle.picture.specs.Rows.{pictureOf}
 use Rattle.picture.specs.Cursor.{editCursor}
-use Rattle.handset.specs.Refusals.{_before_, _unless_}
+use Rattle.handset.specs.Refusals.{_before_, _unless_, sessionRefusal}
 
--- 01, Refusal numbers: 2 to 11, then 12, and 1 last; n is the picture's length
+-- 01, Refusal numbers: 2 to 12, and 1 last; n is the picture's length
 unfoldable pub drawRefusal : List ℕ → ℕ → Session → ℕ → ℕ
-drawRefusal im sheet s n = refusalOf im sheet before (12 unless sessionFits im s) before (1 unless (n =? s .columns * s .lines))
+drawRefusal im sheet s n = sessionRefusal im sheet s before (1 unless (n =? s .columns * s .lines))
 
 -- the row and the column of the edit cursor, or none; none where it is refused
 unfoldable pub drawCursor : List ℕ → ℕ → Session → ℕ → List ℕ

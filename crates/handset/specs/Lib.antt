@@ -1,4 +1,5 @@
 pub mod Refusals
 pub mod Open
+pub mod Event
 pub mod OptionText
 pub mod Draw

@@ -3,11 +3,12 @@ ghost use mathlib.Core.Path.{_≡_};
 ghost use lib.ListN.{length};
 ghost use Rattle.picture.specs.Cursor.{told};
 ghost use Rattle.handset.specs.Draw.{drawRefusal, drawCursor, drawnPicture};
+use crate::refusal::NO_PICTURE;
+use crate::refusal::session_refusal;
 use picture::cursor::EditCursor;
 use picture::cursor::edit_cursor;
 use picture::picture::put_picture;
 use session::session::Session;
-use walk::check::check;
 
 // The refusal number, 0 for none, and the edit cursor: nowhere where it is refused.
 pub struct Drawn {
@@ -15,24 +16,13 @@ pub struct Drawn {
     pub cursor: EditCursor,
 }
 
-// The refusal number for a picture whose length is not columns x lines.
-pub const NO_PICTURE: u8 = 1;
-
-// The refusal number for a session that does not fit the image.
-pub const NO_SESSION: u8 = 12;
-
 // The refusal number, 0 for none, for a picture of so many bytes.
 fn draw_refusal(image: &[u8], sheet: usize, session: Session, length: usize) -> u8
     ensures { λ r. ⌜ r ≡ drawRefusal (now (image .entry)) sheet session length ⌝ }
 {
-    let c = check(image, sheet);
-    let refusal = c.walk.refusal;
+    let refusal = session_refusal(image, sheet, session);
     if refusal != 0 {
         return refusal;
-    }
-    let fits = session.fits(image);
-    if !fits {
-        return NO_SESSION;
     }
     if length == session.columns as usize * session.lines as usize {
         return 0;

@@ -4,6 +4,7 @@ ghost use lib.ListN.{length};
 ghost use Rattle.session.specs.Session.{closed};
 ghost use Rattle.walk.specs.Index.{listed};
 ghost use Rattle.handset.specs.Open.{openAnswer, defaultsWritten, openSheet};
+use crate::refusal::NO_SHAPE;
 use cmf::component::read_component;
 use session::fits::shape_fits;
 use session::session::Session;
@@ -15,9 +16,6 @@ pub struct Opened {
     pub refusal: u8,
     pub session: Session,
 }
-
-// The refusal number for a display of a shape that the paper does not allow.
-pub const NO_SHAPE: u8 = 1;
 
 // Writes the defaults of the first count fields of an index.
 fn write_defaults(image: &[u8], index: &[usize], count: usize, sheet: &mut [u8])

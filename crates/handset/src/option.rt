@@ -3,15 +3,13 @@ ghost use mathlib.Core.Path.{_≡_};
 ghost use lib.ListN.{length};
 ghost use Rattle.walk.specs.Index.{listed};
 ghost use Rattle.handset.specs.OptionText.{reached, itemsIn, textRefusal, optionText};
+use crate::refusal::NO_ITEM;
 use cmf::component::read_component;
 use cmf::text::item_bytes;
 use field::kind::ImagePlace;
 use field::kind::Kind;
 use walk::check::check;
 use walk::index::entry_at;
-
-// The refusal number for a place that is no reached option field, or an item that it has not.
-pub const NO_ITEM: u8 = 14;
 
 // Whether one of the first k entries of an index stands at a place.
 fn is_reached(index: &[usize], k: usize, place: usize) -> bool

@@ -6,7 +6,7 @@ use crate::session::Session;
 use crate::step::Stepped;
 
 impl Session {
-    pub(crate) fn step(self, image: &[u8], sheet: &mut [u8], event: u8) -> Stepped
+    pub fn step(self, image: &[u8], sheet: &mut [u8], event: u8) -> Stepped
         ensures { λ r. ⌜ r ≡ stepOf (now (image .entry)) (now (sheet .entry)) self event ⌝ }
         ensures { λ _. ⌜ now (sheet .exit) ≡ sheetOf (now (image .entry)) (now (sheet .entry)) self event ⌝ }
     {

@@ -34,7 +34,7 @@ module _ (im : List ℕ) where
   -- ---- components
 
   module _ (onward : Onward im) where
-    turns-more : (k j c : ℕ) → k ≤ j → 0 < k → length im < k + c → componentsFrom im j c ≡ componentsFrom im k c
+    pub turns-more : (k j c : ℕ) → k ≤ j → 0 < k → length im < k + c → componentsFrom im j c ≡ componentsFrom im k c
     turns-more zero j c l z h = absurd (omega arith)
     turns-more (suc k) zero c l z h = absurd (omega arith)
     turns-more (suc k) (suc j) c l z h =

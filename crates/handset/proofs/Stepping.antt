@@ -1,0 +1,43 @@
+-- Event, refused or not, over variables.
+use Prim.Native.Nat.{ℕ}
+use mathlib.Core.Path.{_≡_, sym, _∙_}
+use mathlib.Core.List.{List}
+use lib.ListN.{length}
+use borrow.Author.Tests.{leb-true}
+use native.Mathlib.Omega.{arith}
+use Prim.Native.Nat.{_≤_}
+use Rattle.laws.proofs.Cases.{if-eq, if-ne}
+use Rattle.session.specs.Event.{stepOf, sheetOf}
+use Rattle.session.specs.declared.session.Session.{Session}
+use Rattle.handset.specs.Event.{eventRefusal, refusedWith, eventStep, eventSheet}
+use Rattle.handset.proofs.Ordering.{Granted, none-before, none-unless, session-granted}
+
+module _ (im sheet : List ℕ) (s : Session) (e k : ℕ) (q : k ≡ eventRefusal im (length sheet) s e) where
+  -- a refused Event hands the session back and leaves the sheet
+  pub refused-step : (k ≡ 0 → ⊥) → refusedWith s k ≡ eventStep im sheet s e
+  unfolding eventStep
+  refused-step h = sym (rw (← q) (if-ne k 0 _ _ h))
+
+  pub refused-sheet : (k ≡ 0 → ⊥) → sheet ≡ eventSheet im sheet s e
+  unfolding eventSheet
+  refused-sheet h = sym (rw (← q) (if-ne k 0 _ _ h))
+
+  -- any other is the step of the session's mode
+  pub stepped : k ≡ 0 → stepOf im sheet s e ≡ eventStep im sheet s e
+  unfolding eventStep
+  stepped h = sym (rw (← q) (if-eq k 0 _ _ h))
+
+  pub stepped-sheet : k ≡ 0 → sheetOf im sheet s e ≡ eventSheet im sheet s e
+  unfolding eventSheet
+  stepped-sheet h = sym (rw (← q) (if-eq k 0 _ _ h))
+
+-- what an Event that is not refused has tested
+pub record EventGranted (im : List ℕ) (sheet : ℕ) (s : Session) (e : ℕ) : Type 0 where
+  pub granted : Granted im sheet s
+  pub known : e ≤ 16
+
+pub event-granted : (im : List ℕ) (sheet : ℕ) (s : Session) (e : ℕ) → eventRefusal im sheet s e ≡ 0 → EventGranted im sheet s e
+unfolding eventRefusal
+event-granted im sheet s e h =
+    let a = none-before _ _ h in
+    record { granted = session-granted im sheet s (a .0); known = leb-true e 16 (none-unless 13 _ (λ z. omega arith) (a .1)) }

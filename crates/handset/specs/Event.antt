@@ -1,0 +1,33 @@
+-- 01, The four calls: Event. It takes the session in and hands the next one back, with an answer.
+use Prim.Native.Nat.{ℕ}
+use mathlib.Core.List.{List}
+use lib.ListN.{length}
+use Rattle.laws.specs.Choice.{if_then_else_, _=?_, _≤?_}
+use Rattle.session.specs.Events.{second}
+use Rattle.session.specs.Steps.{told}
+use Rattle.session.specs.Event.{stepOf, sheetOf}
+use Rattle.session.specs.declared.session.Session.{Session}
+use Rattle.session.specs.declared.step.Answer.the-variants as answer
+use Rattle.session.specs.declared.step.Stepped.{Stepped}
+use Rattle.handset.specs.Refusals.{_before_, _unless_, sessionRefusal}
+
+-- 01, Refusal numbers: 2 to 12, then 13 for an event above the last, which is a second
+unfoldable pub eventRefusal : List ℕ → ℕ → Session → ℕ → ℕ
+eventRefusal im sheet s e = sessionRefusal im sheet s before (13 unless (e ≤? second))
+
+-- a refused Event returns the session it got, with the refusal number
+abbrev pub refusedWith : Session → ℕ → Stepped
+refusedWith s k = record { session = s; answer = answer.Refused k }
+
+-- the session and the answer: what the step of the session's mode gives
+unfoldable pub eventStep : List ℕ → List ℕ → Session → ℕ → Stepped
+eventStep im sheet s e =
+    if eventRefusal im (length sheet) s e =? 0 then stepOf im sheet s e else refusedWith s (eventRefusal im (length sheet) s e)
+
+-- the answer by its number and values
+unfoldable pub eventTold : List ℕ → List ℕ → Session → ℕ → ℕ
+eventTold im sheet s e = told (eventStep im sheet s e .answer)
+
+-- the sheet after Event: a refused Event alters no byte
+unfoldable pub eventSheet : List ℕ → List ℕ → Session → ℕ → List ℕ
+eventSheet im sheet s e = if eventRefusal im (length sheet) s e =? 0 then sheetOf im sheet s e else sheet

@@ -1,0 +1,112 @@
+-- The components of a line: an editable one holds a field, the first editable one of a list is in it, and what comes behind a component of a
+-- line is on that line too.
+use Prim.Native.Nat.{ℕ, zero, suc, _+_, _%_, _≤_, _<_}
+use mathlib.Core.Path.{_≡_, refl, sym, ap, _∙_, subst}
+use mathlib.Core.Bool.{Bool, true, false, true≢false, false≢true}
+use mathlib.Core.Logic.{_⊎_, inl, inr}
+use mathlib.Core.List.{List, [], _∷_, List·Memᴰ, List·Memᴰ·head, List·Memᴰ·tail, List·Memᴰ·cases-cons, List·Memᴰ·not-nil, List·Memᴰ·eq-of-singleton}
+use native.Mathlib.Omega.{arith}
+use lib.ListN.{length}
+use borrow.Author.Tests.{eqb-true}
+use Rattle.laws.specs.Choice.{if_then_else_, _=?_, _<?_}
+use Rattle.laws.specs.Bytes.{byteAt, room}
+use Rattle.laws.proofs.Cases.{if-ind, if-true, if-false, by-test}
+use Rattle.field.specs.declared.record.Field.{Field}
+use Rattle.cmf.specs.Readers.{tagBit, textsFrom, fixedBytes, textCount, given, componentRefused, componentRead, laidOut, componentBy, componentAt}
+use Rattle.cmf.specs.Places.{componentsFrom}
+use Rattle.cmf.specs.declared.component.Component.{Component}
+use Rattle.cmf.specs.declared.text.Run.{Run}
+use Rattle.cmf.proofs.Onward.{component-onward}
+use Rattle.walk.proofs.Parts.{places-last, places-more}
+use Rattle.walk.proofs.Turns.{turns-more}
+use Rattle.session.specs.Fits.{among}
+use Rattle.session.specs.Browsing.{foundNone, firstEditable}
+use Rattle.session.specs.declared.browse.Found.{Found}
+
+-- ---- one component
+
+module _ (im : List ℕ) (c : ℕ) where
+  -- what a property of the reader's three results comes to
+  by-reading : (P : Component → Type 0) → ((k : ℕ) → P (componentRefused im c k))
+      → ((code tag end : ℕ) (t : Run) → given im c code (tagBit 32 tag) t ≡ true → P (componentRead im c code tag end)) → P (componentAt im c)
+  unfolding componentAt componentBy laidOut
+  by-reading P bad good =
+      if-ind P (c <? length im)
+      (λ _. if-ind P ((byteAt im c % 32) <? 0x18)
+      (λ _. let t : Run = textsFrom im (textCount im c (byteAt im c % 32)) (c + fixedBytes (byteAt im c % 32) (tagBit 32 (byteAt im c))) 0 in
+      if-ind P (room (length im) c (fixedBytes (byteAt im c % 32) (tagBit 32 (byteAt im c))))
+      (λ _. if-ind P (t .fits)
+      (λ _. if-ind P (given im c (byteAt im c % 32) (tagBit 32 (byteAt im c)) t) (λ g. good _ _ _ t g) (λ _. bad 7)) (λ _. bad 6)) (λ _. bad 6)) (λ _. bad 7))
+      (λ _. bad 6)
+
+  -- a field is named by the place where it is read
+  pub own-place : componentAt im c .field .image .0 ≡ c
+  own-place = by-reading (λ x. x .field .image .0 ≡ c) (λ k. refl) (λ code tag end t g. refl)
+
+  -- section 7 gives no string that can be edited: what can be edited holds a field
+  abbrev Holding : Component → Type 0
+  Holding x = x .editable ≡ true → x .holds ≡ true
+
+  string-fixed : (tag : ℕ) (t : Run) → given im c 0x15 (tagBit 32 tag) t ≡ true → tagBit 32 tag ≡ 0
+  unfolding given if_then_else_
+  string-fixed tag t g = eqb-true (tagBit 32 tag) 0 g
+
+  read-holds : (code tag end : ℕ) (t : Run) → given im c code (tagBit 32 tag) t ≡ true → Holding (componentRead im c code tag end)
+  unfolding if_then_else_
+  read-holds code tag end t g e =
+      by-test (code =? 0x15)
+      (λ q. let z = string-fixed tag t (rw (eqb-true code 0x15 q) at g) in absurd (false≢true (rw (eqb-true code 0x15 q, z) at e)))
+      (λ q. rw q)
+
+  pub editable-holds : componentAt im c .editable ≡ true → componentAt im c .holds ≡ true
+  editable-holds = by-reading Holding (λ k e. absurd (false≢true e)) read-holds
+
+-- ---- lists of components
+
+-- a place that is among others is one of them
+pub among-in : (p : ℕ) (cs : List ℕ) → among p cs ≡ true → List·Memᴰ p cs
+unfolding among
+among-in p [] h = absurd (false≢true h)
+among-in p (q ∷ qs) h =
+    by-test (q =? p) (λ e. List·Memᴰ·head (sym (eqb-true q p e))) (λ e. List·Memᴰ·tail (among-in p qs (sym (if-false _ _ e) ∙ h)))
+
+-- the first editable one of a list
+pub record EditableIn (im cs : List ℕ) (f : Found) : Type 0 where
+  pub there : f .found ≡ true → List·Memᴰ (f .place) cs
+  pub editable : f .found ≡ true → componentAt im (f .place) .editable ≡ true
+
+module _ (im : List ℕ) where
+  editable-later : (p : ℕ) (ps : List ℕ) (f : Found) → EditableIn im ps f → EditableIn im (p ∷ ps) f
+  editable-later p ps f h = record { there = λ e. List·Memᴰ·tail (h .there e); editable = h .editable }
+
+  pub first-editable-in : (cs : List ℕ) → EditableIn im cs (firstEditable im cs)
+  unfolding firstEditable
+  first-editable-in [] = record { there = λ e. absurd (false≢true e); editable = λ e. absurd (false≢true e) }
+  first-editable-in (p ∷ ps) =
+      if-ind (EditableIn im (p ∷ ps)) (componentAt im p .editable)
+      (λ e. record { there = λ _. List·Memᴰ·head refl; editable = λ _. e })
+      (λ _. editable-later p ps _ (first-editable-in ps))
+
+  -- what comes behind a component that is not the last of its line is on the line; k bounds the turns, and is enough
+  pub behind-in : (k c p q : ℕ) → length im < k + c → k ≤ length im + 1 → List·Memᴰ p (componentsFrom im k c) → componentAt im p .last ≡ false
+      → List·Memᴰ q (componentsFrom im (length im + 1) (componentAt im p .next)) → List·Memᴰ q (componentsFrom im k c)
+  unfolding componentsFrom
+  behind-in zero c p q h b m l n = absurd (List·Memᴰ·not-nil m)
+  behind-in (suc k) c p q h b m l n =
+      by-test (componentAt im c .last)
+      (λ e. absurd (true≢false (sym (subst (λ (x : ℕ). componentAt im x .last ≡ true) (sym (List·Memᴰ·eq-of-singleton (rw (places-last im k c e) at m))) e) ∙ l)))
+      (λ e.
+      let o = component-onward im c e in
+      rw (places-more im k c e)
+      (List·Memᴰ·tail
+      (step e o (List·Memᴰ·cases-cons (rw (places-more im k c e) at m))
+      (λ r. behind-in k (componentAt im c .next) p q (omega (arith, o .1)) (omega arith) r l n))))
+    where
+      step : componentAt im c .last ≡ false → (c < length im) × (c < componentAt im c .next)
+          → (p ≡ c) ⊎ List·Memᴰ p (componentsFrom im k (componentAt im c .next))
+          → (List·Memᴰ p (componentsFrom im k (componentAt im c .next)) → List·Memᴰ q (componentsFrom im k (componentAt im c .next)))
+          → List·Memᴰ q (componentsFrom im k (componentAt im c .next))
+      step e o (inl i) rest =
+          rw (← turns-more im (component-onward im) k (length im + 1) (componentAt im c .next) (omega arith) (omega (arith, o .0)) (omega (arith, o .1)))
+          (rw i at n)
+      step e o (inr r) rest = rest r

@@ -1,0 +1,12 @@
+pub mod Components
+pub mod Reached
+pub mod Steps
+pub mod Whole
+pub mod Executor
+pub mod Sittings
+pub mod Playing
+pub mod Passwords
+pub mod Moves
+pub mod Protected
+pub mod Examples
+pub mod Starred

@@ -1,0 +1,99 @@
+-- Demand 3, over the definitions that the public contracts cite: after a successful Open and any list of events the sheet is the journal's (A),
+-- each field's bytes are its default changed by its own finished visits (B), and two candidates with the same visits have the same bytes (C).
+use Prim.Native.Nat.{ℕ}
+use mathlib.Core.Path.{_≡_, refl, sym, ap, _∙_}
+use mathlib.Core.Bool.{Bool, true}
+use mathlib.Core.List.{List, [], _∷_}
+use lib.ListN.{length}
+use Rattle.laws.specs.Choice.{_=?_}
+use Rattle.laws.proofs.Cases.{if-ind, if-eq}
+use Rattle.field.specs.Values.{bytesOf}
+use Rattle.field.specs.Sheet.{ownBytes}
+use Rattle.cmf.specs.Grammar.{WellFormed}
+use Rattle.walk.proofs.Acceptance.{accepted-exactly-when-well-formed, same-fields}
+use Rattle.session.specs.Session.{opened, closed}
+use Rattle.session.specs.declared.session.Session.{Session}
+use Rattle.handset.specs.Open.{openRefusal, openAnswer, openSheet}
+use Rattle.handset.proofs.Ordering.{none-before}
+use Rattle.handset.proofs.Defaults.{defaults-there}
+use Rattle.journal.specs.Journal.{Entry, allVisited, journalOf}
+use Rattle.journal.specs.Rules.{fieldAt, rulesOf, IsField, HoldsJournal}
+use Rattle.journal.specs.Sitting.{Sitting, begunWith, next, answerTo, played, entries, visitsIn}
+use Rattle.journal.proofs.Steps.{away, final, log, Opened}
+use Rattle.journal.proofs.Whole.{bytes-are-journal, journal-is-visits}
+use Rattle.journal.proofs.Executor.{viewOf, executor, executor-lawful}
+
+-- ---- Open
+
+module _ (im sheet : List ℕ) (columns lines : ℕ) (accepted : openRefusal im (length sheet) columns lines ≡ 0) where
+  formed : WellFormed im (length sheet)
+  unfolding openRefusal
+  formed = accepted-exactly-when-well-formed im (length sheet) .0 (none-before _ _ accepted .1)
+
+  no-visit : viewOf im (openAnswer im (length sheet) columns lines .session) ≡ away
+  unfolding openAnswer opened closed
+  no-visit = if-ind (λ (s : Session). viewOf im s ≡ away) (openRefusal im (length sheet) columns lines =? 0) (λ _. refl) (λ _. refl)
+
+  at-default : (q : ℕ) → IsField im q → ownBytes (fieldAt im q) (openSheet im sheet columns lines) ≡ bytesOf (fieldAt im q .default)
+  unfolding openSheet
+  at-default q f =
+      rw (if-eq (openRefusal im (length sheet) columns lines) 0 _ _ accepted)
+      (defaults-there im sheet formed (fieldAt im q) (rw (same-fields im _ _ (f .formed) formed) at (f .known)))
+
+  opened-well : Opened (rulesOf im) (executor im) (begunWith im sheet columns lines)
+  unfolding begunWith
+  opened-well = record { closed = no-visit; defaults = at-default }
+
+-- ---- lists
+
+final-is : (im : List ℕ) (t : Sitting) (es : List ℕ) → final (executor im) t es ≡ played im t es
+unfolding played
+final-is im t [] = refl
+final-is im t (e ∷ es) = final-is im (next im t e) es
+
+log-is : (im : List ℕ) (t : Sitting) (es : List ℕ) → log (executor im) t es ≡ entries im t es
+unfolding entries
+log-is im t [] = refl
+log-is im t (e ∷ es) = ap (λ (xs : List Entry). record { event = e; answer = answerTo im t e } ∷ xs) (log-is im (next im t e) es)
+
+-- ---- the three claims
+
+module _ (im sheet : List ℕ) (columns lines : ℕ) (accepted : openRefusal im (length sheet) columns lines ≡ 0) (es : List ℕ) where
+  -- A
+  pub sheet-holds-journal : HoldsJournal im (played im (begunWith im sheet columns lines) es .sheet) (journalOf (rulesOf im) (entries im (begunWith im sheet columns lines) es))
+  sheet-holds-journal =
+      record {
+        same = λ q f.
+            rw (← final-is im (begunWith im sheet columns lines) es, ← log-is im (begunWith im sheet columns lines) es)
+            (bytes-are-journal (rulesOf im) (executor im) (executor-lawful im) (begunWith im sheet columns lines) (opened-well im sheet columns lines accepted) es q f);
+      }
+
+  -- B
+  pub default-changed-by-own-visits : (q : ℕ) → IsField im q
+      → ownBytes (fieldAt im q) (played im (begunWith im sheet columns lines) es .sheet)
+      ≡ allVisited (rulesOf im) q (bytesOf (fieldAt im q .default)) (visitsIn im (begunWith im sheet columns lines) es q)
+  unfolding visitsIn
+  default-changed-by-own-visits q f =
+      sheet-holds-journal .same q f ∙ journal-is-visits (rulesOf im) (entries im (begunWith im sheet columns lines) es) q
+
+-- a candidate: a sheet, a display and a list of events of his own, on an image that Open accepts with them
+pub record Candidate (im : List ℕ) : Type 0 where
+  pub sheet : List ℕ
+  pub columns : ℕ
+  pub lines : ℕ
+  pub events : List ℕ
+  pub accepted : openRefusal im (length sheet) columns lines ≡ 0
+
+-- his finished visits at a field, and the field's bytes at the end
+abbrev pub visitsOf : {im : List ℕ} → Candidate im → ℕ → List (List ℕ)
+visitsOf {im} c q = visitsIn im (begunWith im (c .sheet) (c .columns) (c .lines)) (c .events) q
+
+abbrev pub bytesAt : {im : List ℕ} → Candidate im → ℕ → List ℕ
+bytesAt {im} c q = ownBytes (fieldAt im q) (played im (begunWith im (c .sheet) (c .columns) (c .lines)) (c .events) .sheet)
+
+-- C: two candidates with the same finished visits at every field, in whatever order they went from field to field
+pub two-candidates : (im : List ℕ) (a b : Candidate im) → ((q : ℕ) → IsField im q → visitsOf a q ≡ visitsOf b q) → (q : ℕ) → IsField im q → bytesAt a q ≡ bytesAt b q
+two-candidates im a b h q f =
+    default-changed-by-own-visits im (a .sheet) (a .columns) (a .lines) (a .accepted) (a .events) q f
+    ∙ ap (allVisited (rulesOf im) q (bytesOf (fieldAt im q .default))) (h q f)
+    ∙ sym (default-changed-by-own-visits im (b .sheet) (b .columns) (b .lines) (b .accepted) (b .events) q f)

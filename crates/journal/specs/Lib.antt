@@ -1,0 +1,4 @@
+pub mod Journal
+pub mod Rules
+pub mod Sitting
+pub mod Protected

@@ -1,0 +1,67 @@
+-- The visit rules of an image (01, Fields and Keys), as the journal is fed them: those of crate field, at the field that is read at a place.
+use Prim.Native.Nat.{ℕ}
+use mathlib.Core.Path.{_≡_}
+use mathlib.Core.List.{List, List·Memᴰ}
+use Rattle.laws.specs.Choice.{if_then_else_}
+use Rattle.field.specs.Values.{bytesOf, valueOf}
+use Rattle.field.specs.Cells.{started, finished}
+use Rattle.field.specs.Sheet.{sizeOf, ownBytes}
+use Rattle.field.specs.declared.kind.Kind.{Kind}
+use Rattle.field.specs.declared.kind.Kind.the-variants.{Integer, Counter, Time, Date, Switch, Option, Trigger}
+use Rattle.field.specs.declared.record.Field.{Field}
+use Rattle.field.specs.declared.work.Work.{Work}
+use Rattle.field.specs.declared.keys.Pressed.{Pressed}
+use Rattle.field.specs.declared.keys.Outcome.{Outcome}
+use Rattle.field.specs.declared.keys.Outcome.the-variants as outcome
+use Rattle.cmf.specs.Grammar.{WellFormed}
+use Rattle.cmf.specs.Readers.{componentAt}
+use Rattle.session.specs.Visits.{pressed}
+use Rattle.journal.specs.Journal.{Out, on, stored, Rules, Journal}
+
+-- the field that is read at a place
+abbrev pub fieldAt : List ℕ → ℕ → Field
+fieldAt im p = componentAt im p .field
+
+-- 01: the opening ENTER is the fourth for HH:MM:SS and dates, the third for HH:MM, else the second
+unfoldable pub openerOf : Kind → ℕ
+openerOf (Integer f) = 2
+openerOf (Counter s) = 2
+openerOf (Time long) = if long then 4 else 3
+openerOf (Date long) = 4
+openerOf (Switch n) = 2
+openerOf (Option n w) = 2
+openerOf Trigger = 2
+
+-- what follows for the visit from a key's outcome, with the working copy v that the key gave: a flash leaves the copy w, and only the last ENTER stores
+unfoldable pub outOf : Kind → Work → Work → Outcome → Out Work
+outOf k w v outcome.Taken = on v
+outOf k w v outcome.Flash = on w
+outOf k w v outcome.NextPart = on v
+outOf k w v outcome.Done = stored (bytesOf (finished k v))
+outOf k w v outcome.Fired = on w
+outOf k w v outcome.Passed = on w
+
+abbrev pub pressedOut : Kind → Work → ℕ → Out Work
+pressedOut k w e = outOf k w (pressed k w e .work) (pressed k w e .outcome)
+
+abbrev pub startOf : Field → List ℕ → Work
+startOf f b = started (f .kind) (valueOf (sizeOf f) b) (f .default)
+
+abbrev pub rulesOf : List ℕ → Rules Work
+rulesOf im = record {
+  default = λ p. bytesOf (fieldAt im p .default);
+  start = λ p b. startOf (fieldAt im p) b;
+  press = λ p w e. pressedOut (fieldAt im p .kind) w e;
+  opener = λ p. openerOf (fieldAt im p .kind);
+}
+
+-- a field of an image stands at a place: with a sheet that is long enough the image is well formed, and what is read there is one of its fields.
+-- The fields are the same for every sheet (`walk` `same-fields`)
+pub record IsField (im : List ℕ) (q : ℕ) : Type 0 where
+  pub sheet : ℕ
+  pub formed : WellFormed im sheet
+  pub known : List·Memᴰ (fieldAt im q) (formed .fields)
+
+-- each field's bytes in the sheet are the journal's
+pub record HoldsJournal (im sheet : List ℕ) (j : Journal) : Type 0 where
+  pub same : (q : ℕ) → IsField im q → ownBytes (fieldAt im q) sheet ≡ j .bytes q
