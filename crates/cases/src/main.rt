@@ -1,5 +1,6 @@
 // Runs the cases that standard input holds, and prints a line for each: its name and what the calls answer. The gate compares the lines
 // with those that cases.py has by hand.
+mod playing;
 mod sitting;
 
 use field::kind::ImagePlace;
@@ -14,8 +15,8 @@ use picture::cursor::EditCursor;
 use session::session::Session;
 use walk::check::check;
 
-// A case: check an image, ask for an option's text, open an image on a sheet of bytes 0xEE, or draw a session on a
-// picture of bytes 0xEE.
+// A case: check an image, ask for an option's text, open an image on a sheet of bytes 0xEE, draw a session on a picture of
+// bytes 0xEE, play a list of events from Open on, or step a session by one event.
 const CHECK: u8 = 1;
 
 const TEXT: u8 = 2;
@@ -23,6 +24,10 @@ const TEXT: u8 = 2;
 const OPEN: u8 = 3;
 
 const DRAW: u8 = 4;
+
+const PLAY: u8 = 5;
+
+const STEP: u8 = 6;
 
 // Reads so many bytes of the input to the start of a buffer that has room for them.
 fn read_start(buffer: &mut [u8], count: usize) {
@@ -43,6 +48,10 @@ fn print_hex(bytes: &[u8]) {
         io::print_hex(STDOUT_FILENO, byte_at(bytes, i) as u64, 2);
         i = i + 1;
     }
+}
+
+fn print_space() {
+    io::write_all(STDOUT_FILENO, b" ");
 }
 
 fn run_check(image: &[u8], sheet: &[u8]) {
@@ -135,13 +144,15 @@ fn run_draw(image: &[u8], sheet: &mut [u8]) {
     run_drawn_on(image, sheet, session, &mut picture, length);
 }
 
-// Runs an operation on image and sheet; Open takes its columns and lines in place of place and item.
+// Runs an operation on image and sheet; Open and a list of events take columns and lines in place of place and item.
 fn run(op: u8, image: &[u8], sheet: &mut [u8], place: usize, item: usize) {
     match op {
         CHECK => run_check(image, sheet),
         TEXT => run_text(image, sheet, place, item),
         OPEN => run_open(image, sheet, place, item),
         DRAW => run_draw(image, sheet),
+        PLAY => playing::run_play(image, sheet, (place % 256) as u8, (item % 256) as u8),
+        STEP => playing::run_step(image, sheet),
         _ => (),
     }
 }

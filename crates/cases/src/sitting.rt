@@ -1,11 +1,13 @@
-// The session of a case of Draw, made from its bytes. They are, numbers of more than one byte low byte first: columns,
-// lines, outer; the seven levels above and the level here, each its table's place in two bytes, cursor line, first
-// shown line; idle; mode (0 browsing, 1 visit, 2 password) and in two bytes the visit's place or the count of typed
+// The session of a case, made from its bytes or printed as such. They are, numbers of more than one byte low byte first:
+// columns, lines, outer; the seven levels above and the level here, each its table's place in two bytes, cursor line,
+// first shown line; idle; mode (0 browsing, 1 visit, 2 password) and in two bytes the visit's place or the count of typed
 // digits; the chosen cell; the 32 cells in four bytes each; the eight typed digits.
+use crate::print_hex;
 use field::kind::ImagePlace;
 use field::work::Work;
 use laws::byte_at;
 use laws::word_at;
+use libc::STDOUT_FILENO;
 use session::session::Level;
 use session::session::Mode;
 use session::session::Session;
@@ -111,4 +113,73 @@ pub fn session(bytes: &[u8]) -> Session {
         work: work(bytes),
         typed: typed(bytes),
     }
+}
+
+// The inverse: the bytes of a session, in hex.
+fn print_byte(byte: u8) {
+    io::print_hex(STDOUT_FILENO, byte as u64, 2);
+}
+
+fn print_word(word: usize) {
+    print_byte((word % 256) as u8);
+    print_byte((word / 256 % 256) as u8);
+}
+
+fn print_long(long: u32) {
+    print_word((long % 65536) as usize);
+    print_word((long / 65536) as usize);
+}
+
+fn print_level(level: Level) {
+    print_word(level.table.0);
+    print_byte(level.cursor);
+    print_byte(level.first);
+}
+
+fn print_levels(levels: [Level; 7]) {
+    let mut i = 0;
+    while i < 7 {
+        print_level(levels[i]);
+        i = i + 1;
+    }
+}
+
+fn print_moded(number: u8, of: usize) {
+    print_byte(number);
+    print_word(of);
+}
+
+fn print_mode(mode: Mode) {
+    match mode {
+        Mode::Browsing => print_moded(0, 0),
+        Mode::Visit(place) => print_moded(VISIT, place.0),
+        Mode::Password(count) => print_moded(PASSWORD, count as usize),
+    }
+}
+
+fn print_cells(cells: [u32; 32]) {
+    let mut i = 0;
+    while i < 32 {
+        print_long(cells[i]);
+        i = i + 1;
+    }
+}
+
+pub fn print_session(session: Session) {
+    print_byte(session.columns);
+    print_byte(session.lines);
+    print_byte(session.outer);
+    let above = session.above;
+    print_levels(above);
+    let here = session.here;
+    print_level(here);
+    print_byte(session.idle);
+    let mode = session.mode;
+    print_mode(mode);
+    let work = session.work;
+    print_byte(work.at);
+    let cells = work.cells;
+    print_cells(cells);
+    let typed = session.typed;
+    print_hex(&typed);
 }

@@ -50,7 +50,7 @@ use Rattle.session.specs.declared.step.Answer.the-variants as answer
 use Rattle.session.specs.declared.step.Stepped.{Stepped}
 use Rattle.handset.specs.Event.{eventRefusal, refusedWith, eventStep, eventSheet}
 use Rattle.handset.proofs.Stepping.{refused-step, refused-sheet, stepped, stepped-sheet, EventGranted, event-granted}
-use Rattle.journal.specs.Journal.{Out, on, stored, ignored, counts}
+use Rattle.journal.specs.Journal.{Out, on, stored, isFlash, isRefused, ignored, counts}
 use Rattle.journal.specs.Rules.{fieldAt, openerOf, outOf, pressedOut, startOf, rulesOf, IsField}
 use Rattle.journal.specs.Sitting.{Sitting, sitting, next, answerTo}
 use Rattle.journal.proofs.Components.{own-place, editable-holds, among-in, EditableIn, first-editable-in, behind-in}
@@ -163,27 +163,26 @@ module _ (im : List ℕ) where
   -- ---- keys
 
   module _ (t : Sitting) (e : ℕ) (key : e =? second ≡ false) where
-    -- an answer that is no refusal is heard
-    heard : (b : Bool) → b ≡ false → (if e =? second then true else b) ≡ false
-    heard b h = if-false _ _ key ∙ h
+    -- a key with an answer that is no refusal goes on the trace
+    heard : (a : Answer) → isRefused a ≡ false → ignored (entry e a) ≡ false
+    heard a h = if-false _ _ key ∙ h
 
     -- no visit is open afterwards, and the sheet is as it was
     quiet-taken : (s : Session) → viewOf s ≡ away → Right t e (taken s) (t .sheet)
-    quiet-taken s v = record { right = quiet (heard false refl) refl v (λ q f. refl) }
+    quiet-taken s v = record { right = quiet (heard answer.Taken refl) refl v (λ q f. refl) }
 
     quiet-flash : (s : Session) → viewOf s ≡ away → Right t e (flash s) (t .sheet)
-    quiet-flash s v = record { right = quiet (heard false refl) refl v (λ q f. refl) }
+    quiet-flash s v = record { right = quiet (heard answer.Flash refl) refl v (λ q f. refl) }
 
-    -- an ENTER that is taken
-    counts-taken : e =? enter ≡ true → (if e =? enter then (if false then false else true) else false) ≡ true
+    -- an ENTER that did not flash counts, and nothing else does
+    counts-enter : (a : Answer) → isFlash a ≡ false → e =? enter ≡ true → counts (entry e a) ≡ true
     unfolding if_then_else_
-    counts-taken h = rw h
+    counts-enter a f h = rw (h, f)
 
-    -- a key that is not ENTER
-    counts-not : (b : Bool) → e =? enter ≡ false → (if e =? enter then b else false) ≡ false
-    counts-not b h = if-false _ _ h
+    counts-other : (a : Answer) → e =? enter ≡ false → counts (entry e a) ≡ false
+    counts-other a h = if-false _ _ h
 
-    counts-flash : (if e =? enter then (if true then false else true) else false) ≡ false
+    counts-flash : counts (entry e answer.Flash) ≡ false
     unfolding if_then_else_
     counts-flash = by-test (e =? enter) (λ h. rw h) (λ h. rw h)
 
@@ -245,7 +244,7 @@ module _ (im : List ℕ) where
     enter-right h key b =
         let f = first-editable-in im (componentsOf im (cursorLine im (s .here))) in
         by-if _
-        (λ o. record { right = opens (heard t e key false refl) refl (counts-taken t e key h) (fresh-at (withIdle s 0) (t .sheet) _ (on-line _ (f .there o) (f .editable o))) (λ q k. refl) })
+        (λ o. record { right = opens (heard t e key answer.Taken refl) refl (counts-enter t e key answer.Taken refl h) (fresh-at (withIdle s 0) (t .sheet) _ (on-line _ (f .there o) (f .editable o))) (λ q k. refl) })
         (λ _. quiet-flash t e key _ (still t e key s b _))
 
     browse-right : s .mode ≡ mode.Browsing → Right t e (browseStep im (t .sheet) s e) (t .sheet)
@@ -347,30 +346,30 @@ module _ (im : List ℕ) where
         unfolding followed followedSheet outOf
         followed-right v outcome.Taken h x =
             record {
-              right = goes (heard t e key false refl) refl (counts-not t e key _ (x .0)) (p .0) (s .work) v (seen (x .1)) (view-visit v p (x .1)) h (x .2) (λ q k. refl);
+              right = goes (heard t e key answer.Taken refl) refl (counts-other t e key answer.Taken (x .0)) (p .0) (s .work) v (seen (x .1)) (view-visit v p (x .1)) h (x .2) (λ q k. refl);
             }
         followed-right v outcome.Flash h x =
             by-test (fires (p .0)) (λ z. quiet-flash t e key _ (rw m (view-trigger (s .work) p z)))
             (λ z. record {
-              right = goes (heard t e key false refl) refl (counts-flash t e key) (p .0) (s .work) (s .work) (seen z) (rw m (view-visit (s .work) p z)) h refl (λ q k. refl);
+              right = goes (heard t e key answer.Flash refl) refl (counts-flash t e key) (p .0) (s .work) (s .work) (seen z) (rw m (view-visit (s .work) p z)) h refl (λ q k. refl);
             })
         followed-right v outcome.NextPart h x =
             record {
-              right = passes (heard t e key false refl) refl (counts-taken t e key (x .0)) (p .0) (s .work) v (seen (x .1)) (view-visit v p (x .1)) h (x .2) (λ q k. refl);
+              right = passes (heard t e key answer.Taken refl) refl (counts-enter t e key answer.Taken refl (x .0)) (p .0) (s .work) v (seen (x .1)) (view-visit v p (x .1)) h (x .2) (λ q k. refl);
             }
         followed-right v outcome.Done h x =
             record {
               right =
-                  ends (heard t e key false refl) (counts-taken t e key (x .0)) (p .0) (s .work) (bytesOf (finished (f .kind) v)) refl (seen (x .1)) h
+                  ends (heard t e key (answer.Finished p) refl) (counts-enter t e key (answer.Finished p) refl (x .0)) (p .0) (s .work) (bytesOf (finished (f .kind) v)) refl (seen (x .1)) h
                   (omega (arith, opener-parts (f .kind), x .3, passed-below (f .kind) (s .work) (work-legal (f .kind) (s .work) work-fits (x .1))))
                   (finished-read f v (t .sheet) (field-inside im (length (t .sheet)) w f known))
                   (λ q k d. finished-beside f (fieldAt im q) v (t .sheet) (others q k d))
                   (moved-fresh (finishedIn f v (t .sheet)));
             }
         followed-right v outcome.Fired h x =
-            record { right = quiet (heard t e key false refl) refl (rw m (view-trigger (s .work) p (x .1))) (λ q k. refl) }
+            record { right = quiet (heard t e key (answer.Fired p) refl) refl (rw m (view-trigger (s .work) p (x .1))) (λ q k. refl) }
         followed-right v outcome.Passed h x =
-            record { right = opens (heard t e key false refl) refl (counts-taken t e key (x .0)) (moved-fresh (t .sheet)) (λ q k. refl) }
+            record { right = opens (heard t e key answer.Taken refl) refl (counts-enter t e key answer.Taken refl (x .0)) (moved-fresh (t .sheet)) (λ q k. refl) }
 
       visit-right : Right t e (visitStep im (t .sheet) s p e) (visitSheet im (t .sheet) s p e)
       unfolding visitStep visitSheet
