@@ -7,7 +7,7 @@ use mathlib.Core.Logic.{_⊎_, inl, inr}
 use mathlib.Core.List.{List, [], _∷_, List·Memᴰ, List·Memᴰ·head, List·Memᴰ·tail, List·Memᴰ·cases-cons, List·Memᴰ·not-nil, List·Memᴰ·eq-of-singleton}
 use native.Mathlib.Omega.{arith}
 use lib.ListN.{length}
-use borrow.Author.Tests.{eqb-true}
+use borrow.Author.Tests.{eqb-true, eqb-false}
 use Rattle.laws.specs.Choice.{if_then_else_, _=?_, _<?_}
 use Rattle.laws.specs.Bytes.{byteAt, room}
 use Rattle.laws.proofs.Cases.{if-ind, if-true, if-false, by-test}
@@ -20,14 +20,15 @@ use Rattle.cmf.proofs.Onward.{component-onward}
 use Rattle.walk.proofs.Parts.{places-last, places-more}
 use Rattle.walk.proofs.Turns.{turns-more}
 use Rattle.session.specs.Fits.{among}
-use Rattle.session.specs.Browsing.{foundNone, firstEditable}
+use Rattle.session.specs.Browsing.{foundNone, firstEditable, lineFromHere}
+use Rattle.session.specs.Visits.{nextEditable}
 use Rattle.session.specs.declared.browse.Found.{Found}
 
 -- ---- one component
 
 module _ (im : List ℕ) (c : ℕ) where
   -- what a property of the reader's three results comes to
-  by-reading : (P : Component → Type 0) → ((k : ℕ) → P (componentRefused im c k))
+  pub by-reading : (P : Component → Type 0) → ((k : ℕ) → P (componentRefused im c k))
       → ((code tag end : ℕ) (t : Run) → given im c code (tagBit 32 tag) t ≡ true → P (componentRead im c code tag end)) → P (componentAt im c)
   unfolding componentAt componentBy laidOut
   by-reading P bad good =
@@ -70,6 +71,17 @@ among-in p [] h = absurd (false≢true h)
 among-in p (q ∷ qs) h =
     by-test (q =? p) (λ e. List·Memᴰ·head (sym (eqb-true q p e))) (λ e. List·Memᴰ·tail (among-in p qs (sym (if-false _ _ e) ∙ h)))
 
+-- and the other way
+pub in-among : (p : ℕ) (cs : List ℕ) → List·Memᴰ p cs → among p cs ≡ true
+unfolding among
+in-among p [] m = absurd (List·Memᴰ·not-nil m)
+in-among p (q ∷ qs) m =
+    if-ind (λ (t : Bool). t ≡ true) (q =? p) (λ _. refl) (λ e. go (eqb-false q p e) (List·Memᴰ·cases-cons m) (λ k. in-among p qs k))
+  where
+    go : (q ≡ p → ⊥) → (p ≡ q) ⊎ List·Memᴰ p qs → (List·Memᴰ p qs → among p qs ≡ true) → among p qs ≡ true
+    go d (inl i) later = absurd (d (sym i))
+    go d (inr k) later = later k
+
 -- the first editable one of a list
 pub record EditableIn (im cs : List ℕ) (f : Found) : Type 0 where
   pub there : f .found ≡ true → List·Memᴰ (f .place) cs
@@ -110,3 +122,16 @@ module _ (im : List ℕ) where
           rw (← turns-more im (component-onward im) k (length im + 1) (componentAt im c .next) (omega arith) (omega (arith, o .0)) (omega (arith, o .1)))
           (rw i at n)
       step e o (inr r) rest = rest r
+
+  -- so the editable component behind one of a line is on the line too
+  pub next-editable-in : (c p : ℕ) → List·Memᴰ p (componentsFrom im (length im + 1) c) → EditableIn im (componentsFrom im (length im + 1) c) (nextEditable im p)
+  unfolding nextEditable
+  next-editable-in c p m =
+      if-ind (EditableIn im (componentsFrom im (length im + 1) c)) (componentAt im p .last)
+      (λ _. record { there = λ z. absurd (false≢true z); editable = λ z. absurd (false≢true z) })
+      (λ l.
+      let n = first-editable-in (lineFromHere im (componentAt im p .next)) in
+      record {
+        there = λ z. behind-in (length im + 1) c p _ (omega arith) (omega arith) m l (n .there z);
+        editable = n .editable;
+      })

@@ -1,9 +1,9 @@
 -- The executor's steps are lawful: each event is one of the six cases. An event that is not refused has tested that the image is accepted and
 -- that the session fits, and these facts are enough: nothing is carried from event to event.
-use Prim.Native.Nat.{ℕ, zero, suc, _+_, _≤_, _<_}
+use Prim.Native.Nat.{ℕ, zero, suc, _≤_, _<_}
 use mathlib.Core.Path.{_≡_, refl, sym, ap, _∙_}
 use mathlib.Core.Logic.{_≢_, _⊎_, inl, inr}
-use mathlib.Core.Bool.{Bool, true, false, true≢false, false≢true}
+use mathlib.Core.Bool.{Bool, true, false, true≢false}
 use mathlib.Core.List.{List, [], _∷_, List·Memᴰ}
 use native.Mathlib.Omega.{arith}
 use lib.ListN.{length}
@@ -37,7 +37,7 @@ use Rattle.session.specs.Events.{up, down, left, right, enter, second, lastDigi
 use Rattle.session.specs.Fits.{cursorLine, cursorHead, among, workFits, visitFits, modeFits, sessionFits}
 use Rattle.session.specs.Steps.{taken, flash, withIdle, browsing}
 use Rattle.session.specs.Seconds.{browseSecond, entrySecond}
-use Rattle.session.specs.Browsing.{upStep, downStep, leftStep, descended, rightStep, foundNone, firstEditable, lineFromHere, visitAt, enterStep, browseStep}
+use Rattle.session.specs.Browsing.{upStep, downStep, leftStep, descended, rightStep, foundNone, firstEditable, visitAt, enterStep, browseStep}
 use Rattle.session.specs.Passwords.{lastDigit, digitStep, entryStep}
 use Rattle.session.specs.Visits.{pressed, nextEditable, movedOn, followed, followedSheet, visitStep, visitSheet}
 use Rattle.session.specs.Event.{stepIn, sheetIn}
@@ -53,7 +53,7 @@ use Rattle.handset.proofs.Stepping.{refused-step, refused-sheet, stepped, stepp
 use Rattle.journal.specs.Journal.{Out, on, stored, isFlash, isRefused, ignored, counts}
 use Rattle.journal.specs.Rules.{fieldAt, openerOf, outOf, pressedOut, startOf, rulesOf, IsField}
 use Rattle.journal.specs.Sitting.{Sitting, sitting, next, answerTo}
-use Rattle.journal.proofs.Components.{own-place, editable-holds, among-in, EditableIn, first-editable-in, behind-in}
+use Rattle.journal.proofs.Components.{own-place, editable-holds, among-in, EditableIn, first-editable-in, next-editable-in}
 use Rattle.journal.proofs.Reached.{CursorIn, cursor-line-in}
 use Rattle.journal.proofs.Steps.{View, away, at, System, entry, isFinished, Kept, Fresh, none, Step, skips, quiet, opens, goes, passes, ends, Lawful}
 use Rattle.journal.proofs.Steps as steps
@@ -72,7 +72,7 @@ other : (e n : ℕ) → e =? n ≡ true → (n ≡ enter → ⊥) → e =? enter
 other e n h d = ne-eqb e enter (λ q. d (sym (eqb-true e n h) ∙ q))
 
 -- what the outcome of any key says
-pressed-says : (k : Kind) (w : Work) (e : ℕ) → Says (e =? enter) k w (pressed k w e)
+pub pressed-says : (k : Kind) (w : Work) (e : ℕ) → Says (e =? enter) k w (pressed k w e)
 unfolding pressed
 pressed-says k w e =
     if-ind P (e =? up) (λ h. not-enter _ (other e up h (λ z. omega arith)) (up-says k w _))
@@ -98,7 +98,7 @@ opener-parts (Option n w) = refl
 opener-parts Trigger = refl
 
 -- the working copy of a visit that fits is legal, but for a trigger's
-work-legal : (k : Kind) (w : Work) → workFits k w ≡ true → profileOf k .fires ≡ false → Legal k w
+pub work-legal : (k : Kind) (w : Work) → workFits k w ≡ true → profileOf k .fires ≡ false → Legal k w
 unfolding workFits
 work-legal k w h f =
     record { at = ltb-true (w .at) (profileOf k .cells) (and-l _ _ h); cells = legal-true k (w .cells) (sym (if-false _ _ f) ∙ and-r _ _ h) }
@@ -313,16 +313,8 @@ module _ (im : List ℕ) where
 
       -- the next editable component is on the line too
       next-in : EditableIn im (componentsOf im (cursorLine im (s .here))) (nextEditable im (p .0))
-      unfolding nextEditable componentsOf
-      next-in =
-          if-ind (EditableIn im (componentsOf im (cursorLine im (s .here)))) (componentAt im (p .0) .last)
-          (λ _. record { there = λ z. absurd (false≢true z); editable = λ z. absurd (false≢true z) })
-          (λ l.
-          let n = first-editable-in im (lineFromHere im (componentAt im (p .0) .next)) in
-          record {
-            there = λ z. behind-in im (length im + 1) _ (p .0) _ (omega arith) (omega arith) on-this-line l (n .there z);
-            editable = n .editable;
-          })
+      unfolding componentsOf
+      next-in = next-editable-in im _ (p .0) on-this-line
 
       -- the next visit has just begun
       moved-fresh : (sheet : List ℕ) → Fresh (rulesOf im) executor (sitting (movedOn im sheet (withIdle s 0) (p .0)) sheet)

@@ -8,5 +8,10 @@ pub mod Playing
 pub mod Passwords
 pub mod Moves
 pub mod Protected
+pub mod Fitting
+pub mod FittingEntries
+pub mod WorkingCopies
+pub mod FittingVisits
+pub mod Unrefused
 pub mod Examples
 pub mod Starred

@@ -1,4 +1,4 @@
--- Passwords: those of lines that read well have at most 8 digits, all of them in the image; and digits typed that are right are the password's bytes.
+-- Passwords: those of lines that read well have 1 to 8 digits, all of them in the image; and digits typed that are right are the password's bytes.
 use Prim.Native.Nat.{ℕ, zero, suc, _+_, _≤_, _<_}
 use mathlib.Core.Path.{_≡_, refl, sym, _∙_}
 use mathlib.Core.Bool.{Bool, true, false, false≢true}
@@ -6,14 +6,14 @@ use mathlib.Core.List.{List, map-append}
 use native.Mathlib.Omega.{arith}
 use lib.ListN.{length, getD, take, drop, length-drop}
 use lib.Seq.{take-suc, getD-drop}
-use borrow.Author.Tests.{eqb-true, leb-true}
-use Rattle.laws.specs.Choice.{if_then_else_}
+use borrow.Author.Tests.{eqb-true, eqb-false, leb-true}
+use Rattle.laws.specs.Choice.{if_then_else_, _=?_}
 use Rattle.laws.specs.Bytes.{byteAt, room}
 use Rattle.laws.specs.Parts.{partAt}
-use Rattle.laws.proofs.Cases.{if-ind, if-true, if-eq, and-l, and-r}
+use Rattle.laws.proofs.Cases.{if-ind, if-true, if-eq, by-test, and-l, and-r}
 use Rattle.laws.proofs.Rooms.{room-le, le-room}
 use Rattle.cmf.specs.Limits.{longestPassword}
-use Rattle.cmf.specs.Readers.{textsFrom, passwordFits, textBytes, optionsEnd, passwords, headRefused, headRead, headBy, headAt}
+use Rattle.cmf.specs.Readers.{tagBit, textsFrom, passwordFits, textBytes, optionsEnd, passwords, headRefused, headRead, headBy, headAt}
 use Rattle.cmf.specs.declared.head.Head.{Head}
 use Rattle.cmf.specs.declared.text.Run.{Run}
 use Rattle.session.specs.Passwords.{rightTo}
@@ -21,14 +21,16 @@ use Rattle.journal.specs.Protected.{asDigits}
 
 -- ---- the password of a line
 
--- the password at a place has at most 8 digits, and they are all in the image
+-- the password at a place has 1 to 8 digits, and they are all in the image
 pub record Stands (im : List ℕ) (at : ℕ) : Type 0 where
+  pub some : 1 ≤ byteAt im at
   pub few : byteAt im at ≤ 8
   pub inside : at + 1 + byteAt im at ≤ length im
 
--- the password of a line that is protected by a good one
+-- the password of a line that is protected by a good one; a protected line has a submenu
 pub record Guarded (im : List ℕ) (h : Head) : Type 0 where
   pub guarded : h .protected ≡ true → h .good ≡ true → Stands im (h .password)
+  pub submenu : h .protected ≡ true → h .submenu ≡ true
 
 module _ (im : List ℕ) where
   -- a text that is read is in the image
@@ -42,7 +44,11 @@ module _ (im : List ℕ) where
       Inside : Run → Type 0
       Inside t = t .fits ≡ true → at + 1 + byteAt im at ≤ length im
 
-  -- a password that passes the test is short
+  -- a password that passes the test has a digit, and is short
+  some-digit : (at : ℕ) → passwordFits im at ≡ true → 1 ≤ byteAt im at
+  unfolding passwordFits
+  some-digit at h = leb-true 1 (byteAt im at) (and-l _ _ h)
+
   few-digits : (at : ℕ) → passwordFits im at ≡ true → byteAt im at ≤ 8
   unfolding passwordFits
   few-digits at h = leb-true (byteAt im at) longestPassword (and-l _ _ (and-r _ _ h))
@@ -50,17 +56,22 @@ module _ (im : List ℕ) where
   module _ (p : ℕ) where
     -- a head that is refused has no password, and of one that is read both are tested
     refused-guarded : (k : ℕ) → Guarded im (headRefused p k)
-    refused-guarded k = record { guarded = λ e g. absurd (false≢true e) }
+    refused-guarded k = record { guarded = λ e g. absurd (false≢true e); submenu = λ e. absurd (false≢true e) }
 
     read-guarded : (tag end : ℕ) → textsFrom im (passwords tag) (optionsEnd p tag) 0 .fits ≡ true → Guarded im (headRead im p tag end)
     read-guarded tag end f = record {
       guarded = λ e g.
           let one = eqb-true (passwords tag) 1 e in
-          record {
-            few = few-digits (optionsEnd p tag) (rw (if-eq (passwords tag) 1 (passwordFits im (optionsEnd p tag)) true one) at g);
-            inside = text-inside (optionsEnd p tag) (rw one at f);
-          };
+          let fits = rw (if-eq (passwords tag) 1 (passwordFits im (optionsEnd p tag)) true one) at g in
+          record { some = some-digit (optionsEnd p tag) fits; few = few-digits (optionsEnd p tag) fits; inside = text-inside (optionsEnd p tag) (rw one at f) };
+      submenu = λ e. both (eqb-true (passwords tag) 1 e);
     }
+      where
+        -- a product of two bits
+        both : passwords tag ≡ 1 → tagBit 8 tag =? 1 ≡ true
+        both e =
+            by-test (tagBit 8 tag =? 1) (λ h. h)
+            (λ h. let z : tagBit 8 tag ≡ 0 = omega (arith, eqb-false (tagBit 8 tag) 1 h) in absurd (omega (arith, rw z at e)))
 
     by-guarded : (t : Bool) {x y : Head} → (t ≡ true → Guarded im x) → (t ≡ false → Guarded im y) → Guarded im (if t then x else y)
     by-guarded t f g = if-ind (Guarded im) t f g

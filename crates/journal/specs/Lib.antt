@@ -2,3 +2,4 @@ pub mod Journal
 pub mod Rules
 pub mod Sitting
 pub mod Protected
+pub mod Unrefused

@@ -1,0 +1,39 @@
+-- Nothing is refused in a sitting: what is promised of the session and the sheet that Open and the events after it lead to.
+use Prim.Native.Nat.{ℕ, _*_, _≤_, _<_}
+use mathlib.Core.Path.{_≡_}
+use mathlib.Core.Bool.{true, false}
+use mathlib.Core.List.{List}
+use lib.ListN.{length}
+use Rattle.session.specs.Events.{second}
+use Rattle.session.specs.Fits.{sessionFits}
+use Rattle.session.specs.declared.session.Session.{Session}
+use Rattle.handset.specs.Event.{eventRefusal}
+use Rattle.handset.specs.Draw.{drawRefusal}
+use Rattle.journal.specs.Journal.{isRefused}
+use Rattle.journal.specs.Sitting.{Sitting, answerTo}
+
+-- the arrays of a session have the lengths that their types say; as lists they could have any
+pub record Sized (s : Session) : Type 0 where
+  pub above : length (s .above) ≡ 7
+  pub typed : length (s .typed) ≡ 8
+  pub cells : length (s .work .cells) ≡ 32
+
+-- what a step keeps: the session fits, for the same display
+pub record StillFits (im : List ℕ) (s z : Session) : Type 0 where
+  pub fits : sessionFits im z ≡ true
+  pub sized : Sized z
+  pub columns : z .columns ≡ s .columns
+  pub lines : z .lines ≡ s .lines
+
+-- what is promised of a sitting on a display of this shape
+pub record NothingRefused (im : List ℕ) (c l : ℕ) (t : Sitting) : Type 0 where
+  -- the session fits, and is still for this display
+  pub fits : sessionFits im (t .session) ≡ true
+  pub columns : t .session .columns ≡ c
+  pub lines : t .session .lines ≡ l
+  -- no event is refused, and its answer says so; a number that is no event gets 13
+  pub events : (e : ℕ) → e ≤ second → eventRefusal im (length (t .sheet)) (t .session) e ≡ 0
+  pub answers : (e : ℕ) → e ≤ second → isRefused (answerTo im t e) ≡ false
+  pub no-event : (e : ℕ) → second < e → eventRefusal im (length (t .sheet)) (t .session) e ≡ 13
+  -- nor is any Draw with a picture of the display's size
+  pub draw : drawRefusal im (length (t .sheet)) (t .session) (c * l) ≡ 0
