@@ -9,4 +9,4 @@ pub mod Shown
 pub mod Apart
 pub mod Outcomes
 pub mod Counted
-pub mod Starred
+pub mod Worked

@@ -92,7 +92,8 @@ module _ (im : List ℕ) where
   length-default f s = length-put (f .sheet .0) (bytesOf (f .default)) s
 
   module _ (n : ℕ) (w : WellFormed im n) where
-    all : Every (Standing im) (w .fields)
+    -- what is read at a field's place is the field
+    pub all : Every (Standing im) (w .fields)
     all = every-table im (Standing im) (standing im) _ _ _ _ (w .table)
 
     -- a default that stands stays when another field's is written

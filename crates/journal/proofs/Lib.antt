@@ -15,3 +15,4 @@ pub mod FittingVisits
 pub mod Unrefused
 pub mod Examples
 pub mod Starred
+pub mod Promises

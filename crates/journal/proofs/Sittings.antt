@@ -19,6 +19,7 @@ use Rattle.handset.proofs.Defaults.{defaults-there}
 use Rattle.journal.specs.Journal.{Entry, allVisited, journalOf}
 use Rattle.journal.specs.Rules.{fieldAt, rulesOf, IsField, HoldsJournal}
 use Rattle.journal.specs.Sitting.{Sitting, begunWith, next, answerTo, played, entries, visitsIn}
+use Rattle.journal.specs.Promises.{Candidate, visitsAt, bytesAt}
 use Rattle.journal.proofs.Steps.{away, final, log, Opened}
 use Rattle.journal.proofs.Whole.{bytes-are-journal, journal-is-visits}
 use Rattle.journal.proofs.Executor.{viewOf, executor, executor-lawful}
@@ -26,7 +27,7 @@ use Rattle.journal.proofs.Executor.{viewOf, executor, executor-lawful}
 -- ---- Open
 
 module _ (im sheet : List ℕ) (columns lines : ℕ) (accepted : openRefusal im (length sheet) columns lines ≡ 0) where
-  formed : WellFormed im (length sheet)
+  pub formed : WellFormed im (length sheet)
   unfolding openRefusal
   formed = accepted-exactly-when-well-formed im (length sheet) .0 (none-before _ _ accepted .1)
 
@@ -34,7 +35,7 @@ module _ (im sheet : List ℕ) (columns lines : ℕ) (accepted : openRefusal im 
   unfolding openAnswer opened closed
   no-visit = if-ind (λ (s : Session). viewOf im s ≡ away) (openRefusal im (length sheet) columns lines =? 0) (λ _. refl) (λ _. refl)
 
-  at-default : (q : ℕ) → IsField im q → ownBytes (fieldAt im q) (openSheet im sheet columns lines) ≡ bytesOf (fieldAt im q .default)
+  pub at-default : (q : ℕ) → IsField im q → ownBytes (fieldAt im q) (openSheet im sheet columns lines) ≡ bytesOf (fieldAt im q .default)
   unfolding openSheet
   at-default q f =
       rw (if-eq (openRefusal im (length sheet) columns lines) 0 _ _ accepted)
@@ -76,23 +77,8 @@ module _ (im sheet : List ℕ) (columns lines : ℕ) (accepted : openRefusal im 
   default-changed-by-own-visits q f =
       sheet-holds-journal .same q f ∙ journal-is-visits (rulesOf im) (entries im (begunWith im sheet columns lines) es) q
 
--- a candidate: a sheet, a display and a list of events of his own, on an image that Open accepts with them
-pub record Candidate (im : List ℕ) : Type 0 where
-  pub sheet : List ℕ
-  pub columns : ℕ
-  pub lines : ℕ
-  pub events : List ℕ
-  pub accepted : openRefusal im (length sheet) columns lines ≡ 0
-
--- his finished visits at a field, and the field's bytes at the end
-abbrev pub visitsOf : {im : List ℕ} → Candidate im → ℕ → List (List ℕ)
-visitsOf {im} c q = visitsIn im (begunWith im (c .sheet) (c .columns) (c .lines)) (c .events) q
-
-abbrev pub bytesAt : {im : List ℕ} → Candidate im → ℕ → List ℕ
-bytesAt {im} c q = ownBytes (fieldAt im q) (played im (begunWith im (c .sheet) (c .columns) (c .lines)) (c .events) .sheet)
-
 -- C: two candidates with the same finished visits at every field, in whatever order they went from field to field
-pub two-candidates : (im : List ℕ) (a b : Candidate im) → ((q : ℕ) → IsField im q → visitsOf a q ≡ visitsOf b q) → (q : ℕ) → IsField im q → bytesAt a q ≡ bytesAt b q
+pub two-candidates : (im : List ℕ) (a b : Candidate im) → ((q : ℕ) → IsField im q → visitsAt a q ≡ visitsAt b q) → (q : ℕ) → IsField im q → bytesAt a q ≡ bytesAt b q
 two-candidates im a b h q f =
     default-changed-by-own-visits im (a .sheet) (a .columns) (a .lines) (a .accepted) (a .events) q f
     ∙ ap (allVisited (rulesOf im) q (bytesOf (fieldAt im q .default))) (h q f)

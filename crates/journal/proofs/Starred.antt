@@ -140,7 +140,9 @@ cases =
     -- delay-to-top 3: the third second in a row shows the top at its first line; the submenu at 27 was entered from the second
     ∷ case returning (7 ∷ []) (down ∷ right ∷ second ∷ second ∷ second ∷ [])
     (gives (taken ∷ taken ∷ taken ∷ taken ∷ taken ∷ []) (7 ∷ []) 10 0)
-    -- not starred from here on. After two seconds the submenu is still shown
+    -- not starred from here on. The picture's image with a sheet that has no room for the option: 10
+    ∷ case image [] [] (refused 10 [])
+    -- After two seconds the submenu is still shown
     ∷ case returning (7 ∷ []) (down ∷ right ∷ second ∷ second ∷ []) (gives (taken ∷ taken ∷ taken ∷ taken ∷ []) (7 ∷ []) 27 0)
     -- a key between starts the count anew, though it flashes: no three seconds in a row, and then three
     ∷ case returning (7 ∷ []) (down ∷ right ∷ second ∷ second ∷ up ∷ second ∷ second ∷ [])

@@ -3,3 +3,4 @@ pub mod Rules
 pub mod Sitting
 pub mod Protected
 pub mod Unrefused
+pub mod Promises

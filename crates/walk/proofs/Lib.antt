@@ -11,4 +11,3 @@ pub mod Reach
 pub mod Turns
 pub mod CodeSteps
 pub mod Acceptance
-pub mod Starred

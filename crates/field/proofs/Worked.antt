@@ -1,4 +1,4 @@
--- The paper's cases of a visit, and more of each kind: one statement over one list, by computation.
+-- Visits of each kind worked out by hand, one statement over one list, by computation. (01's own cases are in `journal`, as whole sittings.)
 use Prim.Native.Nat.{ℕ}
 use mathlib.Core.Path.{_≡_, refl}
 use mathlib.Core.Bool.{true}
@@ -13,7 +13,7 @@ use Rattle.field.specs.Values.{bytesOf, valueOf, numberOf, valueFrom}
 use Rattle.field.specs.Cells.{spans, distance, signOf, inDigits, shownBy, minus, storable, ofDigits, cellsOf, storedIn, inSpan, stores, within, legalTo, legal, inRange, workOf, started, finished}
 use Rattle.field.specs.Keys.{raised, lowered, upKey, downKey, leftKey, rightKey, onRight, digitKey, partAfter, enterKey}
 use Rattle.field.specs.declared.kind.Kind.{Kind}
-use Rattle.field.specs.declared.kind.Kind.the-variants.{Integer, Counter, Time, Date, Switch, Option, Trigger}
+use Rattle.field.specs.declared.kind.Kind.the-variants.{Integer, Time, Date, Switch, Option, Trigger}
 use Rattle.field.specs.declared.work.Work.{Work}
 use Rattle.field.specs.declared.value.Value.{Value}
 use Rattle.field.specs.declared.keys.Pressed.{Pressed}
@@ -84,38 +84,18 @@ runs c = visit (c .kind) (started (c .kind) (value (c .sheet)) (value (c .defaul
 abbrev pub expected : Case → Seen
 expected c = record { outcomes = c .outcomes; bytes = c .bytes }
 
--- the kinds of the cases
-abbrev ddd : Kind
-ddd = Integer (formatOf 1)
-
+-- a signed integer of two digits
 abbrev sdd : Kind
 sdd = Integer (formatOf 3)
-
-abbrev counter : ℕ → ℕ → ℕ → ℕ → Kind
-counter l h s w = Counter (record { min = l; max = h; step = s; width = w })
 
 -- a line for each case
 unfoldable pub cases : List Case
 cases =
-    -- counter -5 to 100 by 10, at 98: UP flashes
-    case (counter 32763 32868 10 3) (98 ∷ 0 ∷ []) (0 ∷ 0 ∷ []) (up ∷ enter ∷ []) (Flash ∷ Done ∷ []) (98 ∷ 0 ∷ [])
-    -- DOWN gives 88
-    ∷ case (counter 32763 32868 10 3) (98 ∷ 0 ∷ []) (0 ∷ 0 ∷ []) (down ∷ enter ∷ []) (Taken ∷ Done ∷ []) (88 ∷ 0 ∷ [])
-    -- counter -32768 to 32767 by 10, at 32760: UP flashes
-    ∷ case (counter 0 65535 10 6) (248 ∷ 127 ∷ []) (0 ∷ 0 ∷ []) (up ∷ enter ∷ []) (Flash ∷ Done ∷ []) (248 ∷ 127 ∷ [])
+    -- an item that is not there: the visit starts from the default, the last item
+    case (Option 2 3) (7 ∷ []) (1 ∷ []) (right ∷ up ∷ enter ∷ []) (Flash ∷ Flash ∷ Done ∷ []) (1 ∷ [])
     -- hours at 23: UP flashes; minutes step
     ∷ case (Time true) (23 ∷ 5 ∷ 7 ∷ []) (0 ∷ 0 ∷ 0 ∷ []) (up ∷ enter ∷ down ∷ enter ∷ enter ∷ [])
     (Flash ∷ NextPart ∷ Taken ∷ NextPart ∷ Done ∷ []) (23 ∷ 4 ∷ 7 ∷ [])
-    -- ddd: 2 5 5 ENTER stores 255
-    ∷ case ddd (0 ∷ []) (0 ∷ []) (typed 2 ∷ typed 5 ∷ typed 5 ∷ enter ∷ []) (Taken ∷ Taken ∷ Taken ∷ Done ∷ []) (255 ∷ [])
-    -- ddd: 3 0 0 ENTER flashes and stays; LEFT LEFT 2 ENTER then stores 200
-    ∷ case ddd (0 ∷ []) (0 ∷ []) (typed 3 ∷ typed 0 ∷ typed 0 ∷ enter ∷ left ∷ left ∷ typed 2 ∷ enter ∷ [])
-    (Taken ∷ Taken ∷ Taken ∷ Flash ∷ Taken ∷ Taken ∷ Taken ∷ Done ∷ []) (200 ∷ [])
-    -- option of two items: RIGHT ENTER makes the byte 1, ENTER leaves it 0
-    ∷ case (Option 2 3) (0 ∷ []) (0 ∷ []) (right ∷ enter ∷ []) (Taken ∷ Done ∷ []) (1 ∷ [])
-    ∷ case (Option 2 3) (0 ∷ []) (0 ∷ []) (enter ∷ []) (Done ∷ []) (0 ∷ [])
-    -- an item that is not there: the visit starts from the default, the last item
-    ∷ case (Option 2 3) (7 ∷ []) (1 ∷ []) (right ∷ up ∷ enter ∷ []) (Flash ∷ Flash ∷ Done ∷ []) (1 ∷ [])
     -- sdd at -5: '-' is set again, the second digit steps to 6; -6 is stored
     ∷ case sdd (251 ∷ []) (0 ∷ []) (down ∷ right ∷ right ∷ up ∷ enter ∷ []) (Taken ∷ Taken ∷ Taken ∷ Taken ∷ Done ∷ []) (250 ∷ [])
     -- sdd at 0: minus zero is stored as 0, and a digit key flashes on the sign
@@ -133,6 +113,6 @@ cases =
     ∷ []
 
 -- every case comes out as listed
-pub starred : map runs cases ≡ map expected cases
+pub worked : map runs cases ≡ map expected cases
 unfolding cases if_then_else_ _and_ fit digitsOf numberFrom lowFirst fromLow formatOf signsOf digitsIn baseOf limitOf halfOf topOf bitsIn profileOf cellOf numberOf valueFrom spans distance signOf inDigits shownBy minus storable ofDigits cellsOf storedIn inSpan stores within legalTo legal inRange workOf started finished raised lowered upKey downKey leftKey rightKey onRight digitKey partAfter enterKey
-starred = refl
+worked = refl

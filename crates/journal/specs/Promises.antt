@@ -1,0 +1,108 @@
+-- The coordinator's three demands, one record each, in order, over the definitions that the public contracts cite: the contract of each call
+-- equates its answer, and every byte that it was lent to write, with them. `proofs/Promises` proves all three.
+use Prim.Native.Nat.{ℕ, _+_, _*_, _≤_, _<_}
+use mathlib.Core.Path.{_≡_}
+use mathlib.Core.Logic.{_⊎_}
+use mathlib.Core.Bool.{true, false}
+use mathlib.Core.List.{List, [], _∷_, _++_, List·Memᴰ}
+use lib.ListN.{length, getD}
+use Rattle.laws.specs.Parts.{partAt}
+use Rattle.field.specs.Values.{bytesOf}
+use Rattle.field.specs.Sheet.{sizeOf, ownBytes}
+use Rattle.field.specs.declared.record.Field.{Field}
+use Rattle.cmf.specs.Grammar.{WellFormed}
+use Rattle.walk.specs.Check.{refusalOf}
+use Rattle.session.specs.Session.{noLevel, opened, closed}
+use Rattle.session.specs.Fits.{cursorHead, sessionFits}
+use Rattle.session.specs.Event.{stepOf, sheetOf}
+use Rattle.session.specs.declared.session.Session.{Session}
+use Rattle.picture.specs.Rows.{pictureOf}
+use Rattle.picture.specs.Cursor.{editCursor}
+use Rattle.handset.specs.Open.{openRefusal, openAnswer, openSheet}
+use Rattle.handset.specs.Event.{eventRefusal, refusedWith, eventStep, eventSheet}
+use Rattle.handset.specs.Draw.{drawRefusal, drawCursor, drawnPicture}
+use Rattle.handset.specs.OptionText.{textRefusal, optionText}
+use Rattle.journal.specs.Journal.{allVisited, journalOf}
+use Rattle.journal.specs.Rules.{fieldAt, rulesOf, IsField, HoldsJournal}
+use Rattle.journal.specs.Sitting.{Sitting, begunWith, next, answerTo, played, entries, visitsIn}
+use Rattle.journal.specs.Protected.{OpenedByDigits, Unlocked}
+use Rattle.journal.specs.Unrefused.{NothingRefused}
+
+-- ---- demand 1: refusals. That every call ends with an answer, whatever it is given, is that its function has a contract and asks for nothing
+
+pub record Demand1 : Type 0 where
+  -- a refused Open gives a closed session, and leaves the sheet
+  pub open-closes : (im : List ℕ) (sheet columns lines : ℕ) → (openRefusal im sheet columns lines ≡ 0 → ⊥) → openAnswer im sheet columns lines .session ≡ closed
+  pub open-keeps : (im sheet : List ℕ) (columns lines : ℕ) → (openRefusal im (length sheet) columns lines ≡ 0 → ⊥) → openSheet im sheet columns lines ≡ sheet
+  -- and a closed session never fits
+  pub closed-unfit : (im : List ℕ) → sessionFits im closed ≡ false
+  -- a refused Event hands the session back with its number, and leaves the sheet
+  pub event-returns : (im sheet : List ℕ) (s : Session) (e : ℕ) → (eventRefusal im (length sheet) s e ≡ 0 → ⊥)
+      → eventStep im sheet s e ≡ refusedWith s (eventRefusal im (length sheet) s e)
+  pub event-keeps : (im sheet : List ℕ) (s : Session) (e : ℕ) → (eventRefusal im (length sheet) s e ≡ 0 → ⊥) → eventSheet im sheet s e ≡ sheet
+  -- a refused Draw has no cursor, and leaves the picture
+  pub draw-nowhere : (im : List ℕ) (sheet : ℕ) (s : Session) (n : ℕ) → (drawRefusal im sheet s n ≡ 0 → ⊥) → drawCursor im sheet s n ≡ []
+  pub draw-keeps : (im sheet : List ℕ) (s : Session) (picture : List ℕ) → (drawRefusal im (length sheet) s (length picture) ≡ 0 → ⊥)
+      → drawnPicture im sheet s picture ≡ picture
+  -- a refused Option text gives an empty part
+  pub text-empty : (im : List ℕ) (sheet place item : ℕ) → (textRefusal im sheet place item ≡ 0 → ⊥) → optionText im sheet place item ≡ []
+
+-- ---- demand 2: what is accepted, and what the calls then do
+
+pub record Demand2 : Type 0 where
+  -- an image is accepted, with a sheet of so many bytes, exactly when it is well formed
+  pub accepted : (im : List ℕ) (sheet : ℕ) → (refusalOf im sheet ≡ 0 → WellFormed im sheet) × (WellFormed im sheet → refusalOf im sheet ≡ 0)
+  -- Open gives the top table at its first line, and writes each field's default and nothing else
+  pub opens : (im : List ℕ) (sheet columns lines : ℕ) → openRefusal im sheet columns lines ≡ 0 → openAnswer im sheet columns lines .session ≡ opened columns lines
+  pub defaults : (im sheet : List ℕ) (columns lines : ℕ) → openRefusal im (length sheet) columns lines ≡ 0
+      → (q : ℕ) → IsField im q → ownBytes (fieldAt im q) (openSheet im sheet columns lines) ≡ bytesOf (fieldAt im q .default)
+  pub nothing-else : (im sheet : List ℕ) (columns lines : ℕ) → openRefusal im (length sheet) columns lines ≡ 0
+      → (from n : ℕ) → ((q : ℕ) → IsField im q → (from + n ≤ fieldAt im q .sheet .0) ⊎ (fieldAt im q .sheet .0 + sizeOf (fieldAt im q) ≤ from))
+      → partAt from n (openSheet im sheet columns lines) ≡ partAt from n sheet
+  -- each event is the step that 01's rules give
+  pub steps : (im sheet : List ℕ) (s : Session) (e : ℕ) → eventRefusal im (length sheet) s e ≡ 0 → eventStep im sheet s e ≡ stepOf im sheet s e
+  pub stores : (im sheet : List ℕ) (s : Session) (e : ℕ) → eventRefusal im (length sheet) s e ≡ 0 → eventSheet im sheet s e ≡ sheetOf im sheet s e
+  -- each picture is the one that 01's rules give
+  pub draws : (im sheet : List ℕ) (s : Session) (picture : List ℕ) → drawRefusal im (length sheet) s (length picture) ≡ 0
+      → drawnPicture im sheet s picture ≡ pictureOf im sheet s
+  pub points : (im : List ℕ) (sheet : ℕ) (s : Session) (n : ℕ) → drawRefusal im sheet s n ≡ 0 → drawCursor im sheet s n ≡ editCursor im s
+  -- a protected line opens its submenu only after its own digits
+  pub protected : (im sheet : List ℕ) (columns lines : ℕ) (es : List ℕ) (e : ℕ) → let t = played im (begunWith im sheet columns lines) es in
+      cursorHead im (t .session .here) .protected ≡ true → t .session .outer < next im t e .session .outer
+      → OpenedByDigits im (cursorHead im (t .session .here)) (next im t e) (answerTo im t e) (entries im (begunWith im sheet columns lines) (es ++ (e ∷ [])))
+  pub unlocked : (im sheet : List ℕ) (columns lines : ℕ) (es : List ℕ) (k : ℕ) → let s = played im (begunWith im sheet columns lines) es .session in
+      k < s .outer → cursorHead im (getD (s .above) k noLevel) .protected ≡ true → Unlocked im (begunWith im sheet columns lines) es (getD (s .above) k noLevel)
+
+-- ---- demand 3: whole sittings
+
+-- a candidate: a sheet, a display and a list of events of his own, with which Open accepts the image
+pub record Candidate (im : List ℕ) : Type 0 where
+  pub sheet : List ℕ
+  pub columns : ℕ
+  pub lines : ℕ
+  pub events : List ℕ
+  pub accepted : openRefusal im (length sheet) columns lines ≡ 0
+
+module _ {im : List ℕ} (c : Candidate im) where
+  abbrev pub start : Sitting
+  start = begunWith im (c .sheet) (c .columns) (c .lines)
+
+  abbrev pub end : Sitting
+  end = played im start (c .events)
+
+  -- his finished visits at a field, and the field's bytes at the end
+  abbrev pub visitsAt : ℕ → List (List ℕ)
+  visitsAt q = visitsIn im start (c .events) q
+
+  abbrev pub bytesAt : ℕ → List ℕ
+  bytesAt q = ownBytes (fieldAt im q) (end .sheet)
+
+pub record Demand3 : Type 0 where
+  -- after any list of events each field's bytes are the journal's
+  pub journal : {im : List ℕ} (c : Candidate im) → HoldsJournal im (end c .sheet) (journalOf (rulesOf im) (entries im (start c) (c .events)))
+  -- so they are its default changed by its own finished visits one after another, whatever was done elsewhere between them
+  pub visits : {im : List ℕ} (c : Candidate im) (q : ℕ) → IsField im q → bytesAt c q ≡ allVisited (rulesOf im) q (bytesOf (fieldAt im q .default)) (visitsAt c q)
+  -- two candidates with the same finished visits at each field have the same bytes at each field
+  pub candidates : {im : List ℕ} (a b : Candidate im) → ((q : ℕ) → IsField im q → visitsAt a q ≡ visitsAt b q) → (q : ℕ) → IsField im q → bytesAt a q ≡ bytesAt b q
+  -- and nothing is refused on the way
+  pub never-refused : {im : List ℕ} (c : Candidate im) → NothingRefused im (c .columns) (c .lines) (end c)
