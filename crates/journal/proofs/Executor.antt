@@ -50,12 +50,12 @@ use Rattle.session.specs.declared.step.Answer.the-variants as answer
 use Rattle.session.specs.declared.step.Stepped.{Stepped}
 use Rattle.handset.specs.Event.{eventRefusal, refusedWith, eventStep, eventSheet}
 use Rattle.handset.proofs.Stepping.{refused-step, refused-sheet, stepped, stepped-sheet, EventGranted, event-granted}
-use Rattle.journal.specs.Journal.{Out, on, stored, isFlash, isRefused, ignored, counts}
+use Rattle.journal.specs.Journal.{answered, Out, on, stored, isFlash, isRefused, ignored, counts}
 use Rattle.journal.specs.Rules.{fieldAt, openerOf, outOf, pressedOut, startOf, rulesOf, IsField}
 use Rattle.journal.specs.Sitting.{Sitting, sitting, next, answerTo}
 use Rattle.journal.proofs.Components.{own-place, editable-holds, among-in, EditableIn, first-editable-in, next-editable-in}
 use Rattle.journal.proofs.Reached.{CursorIn, cursor-line-in}
-use Rattle.journal.proofs.Steps.{View, away, at, System, entry, isFinished, Kept, Fresh, none, Step, skips, quiet, opens, goes, passes, ends, Lawful}
+use Rattle.journal.proofs.Steps.{View, away, at, System, isFinished, Kept, Fresh, none, Step, skips, quiet, opens, goes, passes, ends, Lawful}
 use Rattle.journal.proofs.Steps as steps
 
 -- ---- keys in a visit
@@ -164,7 +164,7 @@ module _ (im : List ℕ) where
 
   module _ (t : Sitting) (e : ℕ) (key : e =? second ≡ false) where
     -- a key with an answer that is no refusal goes on the trace
-    heard : (a : Answer) → isRefused a ≡ false → ignored (entry e a) ≡ false
+    heard : (a : Answer) → isRefused a ≡ false → ignored (answered e a) ≡ false
     heard a h = if-false _ _ key ∙ h
 
     -- no visit is open afterwards, and the sheet is as it was
@@ -175,14 +175,14 @@ module _ (im : List ℕ) where
     quiet-flash s v = record { right = quiet (heard answer.Flash refl) refl v (λ q f. refl) }
 
     -- an ENTER that did not flash counts, and nothing else does
-    counts-enter : (a : Answer) → isFlash a ≡ false → e =? enter ≡ true → counts (entry e a) ≡ true
+    counts-enter : (a : Answer) → isFlash a ≡ false → e =? enter ≡ true → counts (answered e a) ≡ true
     unfolding if_then_else_
     counts-enter a f h = rw (h, f)
 
-    counts-other : (a : Answer) → e =? enter ≡ false → counts (entry e a) ≡ false
+    counts-other : (a : Answer) → e =? enter ≡ false → counts (answered e a) ≡ false
     counts-other a h = if-false _ _ h
 
-    counts-flash : counts (entry e answer.Flash) ≡ false
+    counts-flash : counts (answered e answer.Flash) ≡ false
     unfolding if_then_else_
     counts-flash = by-test (e =? enter) (λ h. rw h) (λ h. rw h)
 

@@ -8,9 +8,9 @@ use native.Mathlib.Omega.{arith}
 use native.Mathlib.Numerals.{add-one}
 use lib.ListN.{length, set, take, length-set}
 use borrow.Author.Tests.{eqb-true, leb-true, ltb-true, ltb-false}
-use Rattle.laws.specs.Choice.{if_then_else_, _=?_}
+use Rattle.laws.specs.Choice.{if_then_else_, _=?_, _≤?_}
 use Rattle.laws.specs.Bytes.{byteAt}
-use Rattle.laws.proofs.Cases.{if-ind, if-true, if-false, if-eq, if-ne, and-l, and-r}
+use Rattle.laws.proofs.Cases.{if-ind, if-true, if-false, if-eq, if-ne, if-le, if-gt, and-l, and-r}
 use Rattle.field.specs.declared.kind.ImagePlace.{ImagePlace}
 use Rattle.field.specs.declared.record.Field.{Field}
 use Rattle.field.specs.declared.work.Work.{Work}
@@ -18,6 +18,7 @@ use Rattle.field.specs.declared.keys.Outcome.{Outcome}
 use Rattle.field.specs.declared.keys.Outcome.the-variants as outcome
 use Rattle.cmf.specs.Readers.{textBytes, headAt}
 use Rattle.walk.proofs.Acceptance.{accepted-exactly-when-well-formed}
+use Rattle.session.specs.Events.{lastDigitKey, right, second}
 use Rattle.session.specs.Steps.{withIdle}
 use Rattle.session.specs.Fits.{cursorLine, cursorHead, modeFits, entryFits, sessionFits}
 use Rattle.session.specs.Seconds.{browseSecond, entrySecond}
@@ -33,39 +34,39 @@ use Rattle.session.specs.declared.step.Answer.the-variants as answer
 use Rattle.session.specs.declared.step.Stepped.{Stepped}
 use Rattle.handset.specs.Event.{eventRefusal, eventStep}
 use Rattle.handset.proofs.Stepping.{EventGranted, event-granted}
-use Rattle.journal.specs.Journal.{Entry, ignored}
+use Rattle.journal.specs.Journal.{answered, isFlash, ignored}
 use Rattle.journal.specs.Protected.{typedMore, asDigits}
 use Rattle.journal.proofs.Reached.{cursor-line-in}
 use Rattle.journal.proofs.Passwords.{Stands, head-guarded, typed-right}
 
--- ---- the keys typed, an entry more
-
-abbrev pub entryWith : ℕ → Answer → Entry
-entryWith e a = record { event = e; answer = a }
+-- ---- the digits typed, an event more
 
 module _ (ks : List ℕ) (e : ℕ) where
-  -- a flash, a refused event and a second are left out
-  unheard-flash : typedMore ks (entryWith e answer.Flash) ≡ ks
+  -- a flash of another key, a refused event and a second are left out
+  unheard-flash : e ≤? lastDigitKey ≡ false → typedMore ks (answered e answer.Flash) ≡ ks
   unfolding typedMore
-  unheard-flash = if-ind (λ (l : List ℕ). l ≡ ks) (ignored (entryWith e answer.Flash)) (λ _. refl) (λ _. if-true _ _ refl)
+  unheard-flash h =
+      if-ind (λ (l : List ℕ). l ≡ ks) (ignored (answered e answer.Flash)) (λ _. refl)
+      (λ _. if-false _ _ h ∙ if-ind (λ (l : List ℕ). l ≡ ks) (e =? right) (λ _. if-true _ _ refl) (λ _. refl))
 
-  unheard-refused : (k : ℕ) → typedMore ks (entryWith e (answer.Refused k)) ≡ ks
+  unheard-refused : (k : ℕ) → typedMore ks (answered e (answer.Refused k)) ≡ ks
   unfolding typedMore
-  unheard-refused k = if-true _ _ (if-ind (λ (b : Bool). b ≡ true) (e =? 16) (λ _. refl) (λ _. refl))
+  unheard-refused k = if-true _ _ (if-ind (λ (b : Bool). b ≡ true) (e =? second) (λ _. refl) (λ _. refl))
 
-  unheard-second : (a : Answer) → e =? 16 ≡ true → typedMore ks (entryWith e a) ≡ ks
+  unheard-second : (a : Answer) → e =? second ≡ true → typedMore ks (answered e a) ≡ ks
   unfolding typedMore
   unheard-second a h = if-true _ _ (if-true _ _ h)
 
   -- RIGHT begins anew
-  pub right-typed : e ≡ 14 → typedMore ks (entryWith e answer.Taken) ≡ []
+  pub right-typed : e ≡ right → typedMore ks (answered e answer.Taken) ≡ []
   unfolding typedMore
-  right-typed h = if-false _ _ (if-ne e 16 _ _ (λ q. omega arith)) ∙ if-false _ _ refl ∙ if-eq e 14 _ _ h
+  right-typed h =
+      if-false _ _ (if-ne e second _ _ (λ q. omega arith)) ∙ if-gt e lastDigitKey _ _ (omega arith) ∙ if-eq e right _ _ h ∙ if-false _ _ refl
 
-  -- a digit is one key more
-  pub digit-typed : e ≤ 9 → typedMore ks (entryWith e answer.Taken) ≡ ks ++ (e ∷ [])
+  -- a digit is one more
+  pub digit-typed : e ≤ lastDigitKey → typedMore ks (answered e answer.Taken) ≡ ks ++ (e ∷ [])
   unfolding typedMore
-  digit-typed h = if-false _ _ (if-ne e 16 _ _ (λ q. omega arith)) ∙ if-false _ _ refl ∙ if-ne e 14 _ _ (λ q. omega arith)
+  digit-typed h = if-false _ _ (if-ne e second _ _ (λ q. omega arith)) ∙ if-le e lastDigitKey _ _ h
 
 -- ---- moves
 
@@ -93,7 +94,7 @@ pub record Digit (s : Session) (e : ℕ) (r : Stepped) (n : ℕ) : Type 0 where
   pub mode : s .mode ≡ mode.Password n
   pub few : n < 8
   pub key : e ≤ 9
-  pub answered : r .answer ≡ answer.Taken
+  pub taken : r .answer ≡ answer.Taken
   pub typed : r .session .typed ≡ set (s .typed) n e
 
 -- the six moves from a session by an event with result r
@@ -101,9 +102,9 @@ pub data Move (im : List ℕ) (s : Session) (e : ℕ) (r : Stepped) : Type 0 whe
   -- no entry is open after it
   rests : typing (r .session .mode) ≡ false → Kept s (r .session) → Move im s e r
   -- an entry begins
-  begins : e ≡ 14 → r .answer ≡ answer.Taken → r .session .mode ≡ mode.Password 0 → Kept s (r .session) → Move im s e r
+  begins : e ≡ right → r .answer ≡ answer.Taken → r .session .mode ≡ mode.Password 0 → Kept s (r .session) → Move im s e r
   -- nothing is typed, and an open entry is as it was
-  passes : ((ks : List ℕ) → typedMore ks (entryWith e (r .answer)) ≡ ks) → r .session .mode ≡ s .mode → r .session .typed ≡ s .typed
+  passes : ((ks : List ℕ) → typedMore ks (answered e (r .answer)) ≡ ks) → r .session .mode ≡ s .mode → r .session .typed ≡ s .typed
       → Kept s (r .session) → Move im s e r
   -- a digit that is not the last
   types : (n : ℕ) → Digit s e r n → r .session .mode ≡ mode.Password (suc n) → Kept s (r .session) → Move im s e r
@@ -162,7 +163,7 @@ module _ (im : List ℕ) (s : Session) (e : ℕ) where
         (λ _. stays refl refl (omega arith) refl)
 
     -- RIGHT begins an entry on a protected line, and goes below another
-    right-moves : e ≡ 14 → Move im s e (rightStep im (withIdle s 0))
+    right-moves : e ≡ right → Move im s e (rightStep im (withIdle s 0))
     unfolding rightStep
     right-moves q =
         by-move _
@@ -176,7 +177,7 @@ module _ (im : List ℕ) (s : Session) (e : ℕ) where
         by-move _ (λ _. up-moves)
         (λ _. by-move _ (λ _. down-moves)
         (λ _. by-move _ (λ _. left-moves)
-        (λ _. by-move _ (λ q. right-moves (eqb-true e 14 q))
+        (λ _. by-move _ (λ q. right-moves (eqb-true e right q))
         (λ _. by-move _ (λ _. enter-moves sheet)
         (λ _. by-move _ (λ _. second-moves)
         (λ _. stays refl refl (omega arith) refl))))))
@@ -207,12 +208,12 @@ module _ (im : List ℕ) (s : Session) (e : ℕ) where
   module _ (z : length (s .typed) ≡ 8) (n : ℕ) (m : s .mode ≡ mode.Password n) (w : Stands im (cursorHead im (s .here) .password))
       (few : n < byteAt im (cursorHead im (s .here) .password)) where
     -- what leaves the entry as it is
-    waits : {r : Stepped} → ((ks : List ℕ) → typedMore ks (entryWith e (r .answer)) ≡ ks) → r .session .mode ≡ s .mode → r .session .above ≡ s .above
+    waits : {r : Stepped} → ((ks : List ℕ) → typedMore ks (answered e (r .answer)) ≡ ks) → r .session .mode ≡ s .mode → r .session .above ≡ s .above
         → r .session .outer ≤ s .outer → r .session .typed ≡ s .typed → Move im s e r
     waits u q a o t = Move.passes u q t (record { above = a; outer = o; typed = ap length t })
 
     -- a second ends it, or counts
-    wait-moves : e =? 16 ≡ true → Move im s e (entrySecond im s)
+    wait-moves : e =? second ≡ true → Move im s e (entrySecond im s)
     unfolding entrySecond
     wait-moves h =
         by-move _ (λ _. still refl refl (omega arith) refl) (λ _. waits (λ ks. unheard-second ks e answer.Taken h) refl refl (omega arith) refl)
@@ -232,7 +233,7 @@ module _ (im : List ℕ) (s : Session) (e : ℕ) where
       unfolding descended
       unlock-moves q h =
           by-move _
-          (λ l. Move.unlocks n (record { mode = m; few = omega arith; key = k; answered = refl; typed = refl }) refl
+          (λ l. Move.unlocks n (record { mode = m; few = omega arith; key = k; taken = refl; typed = refl }) refl
           (record { above = refl; outer = refl; room = omega (arith, ltb-true (s .outer + 1) 8 l); typed = length-set (s .typed) n e })
           (typed-right im _ typed n w q (length-set (s .typed) n e ∙ z) h) refl)
           (λ _. over refl refl (omega arith) refl)
@@ -247,7 +248,7 @@ module _ (im : List ℕ) (s : Session) (e : ℕ) where
       unfolding digitStep
       digit-moves =
           by-move _
-          (λ _. Move.types n (record { mode = m; few = omega arith; key = k; answered = refl; typed = refl }) (rw add-one)
+          (λ _. Move.types n (record { mode = m; few = omega arith; key = k; taken = refl; typed = refl }) (rw add-one)
           (record { above = refl; outer = omega arith; typed = length-set (s .typed) n e }))
           (λ h. last-moves (omega (arith, ltb-false (n + 1) (byteAt im (cursorHead im (s .here) .password)) h)))
 
@@ -258,7 +259,7 @@ module _ (im : List ℕ) (s : Session) (e : ℕ) where
         by-move _ (λ h. wait-moves h)
         (λ _. by-move _ (λ _. still refl refl (omega arith) refl)
         (λ _. by-move _ (λ h. digit-moves (leb-true e 9 h))
-        (λ _. waits (λ ks. unheard-flash ks e) refl refl (omega arith) refl)))
+        (λ h. waits (λ ks. unheard-flash ks e h) refl refl (omega arith) refl)))
 
 -- ---- every event
 

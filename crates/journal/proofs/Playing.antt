@@ -13,7 +13,7 @@ use Rattle.handset.specs.Event.{eventStep, eventSheet}
 use Rattle.handset.specs.declared.open.Opened.{Opened}
 use Rattle.journal.specs.Journal.{journalOf}
 use Rattle.journal.specs.Rules.{rulesOf, HoldsJournal}
-use Rattle.journal.specs.Sitting.{Sitting, sitting, begunWith, next, played, entries}
+use Rattle.journal.specs.Sitting.{Sitting, sitting, begunWith, next, played, answeredIn}
 use Rattle.journal.proofs.Sittings.{sheet-holds-journal}
 
 module _ (im es : List ℕ) where
@@ -43,7 +43,7 @@ module _ (im es : List ℕ) where
     pub sat-whole : (s : Session) (end : List ℕ) → s ≡ played im (sitting (o .session) after) es .session → end ≡ played im (sitting (o .session) after) es .sheet
         → (s ≡ played im (begunWith im sheet columns lines) es .session)
         × ((end ≡ played im (begunWith im sheet columns lines) es .sheet)
-        × (openRefusal im (length sheet) columns lines ≡ 0 → HoldsJournal im end (journalOf (rulesOf im) (entries im (begunWith im sheet columns lines) es))))
+        × (openRefusal im (length sheet) columns lines ≡ 0 → HoldsJournal im end (journalOf (rulesOf im) (answeredIn im (begunWith im sheet columns lines) es))))
     sat-whole s end p q =
         let e : end ≡ played im (begunWith im sheet columns lines) es .sheet = q ∙ ap (λ (t : Sitting). played im t es .sheet) begun-is in
         (p ∙ ap (λ (t : Sitting). played im t es .session) begun-is, (e, λ z. rw e (sheet-holds-journal im sheet columns lines z es)))

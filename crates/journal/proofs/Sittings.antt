@@ -16,9 +16,9 @@ use Rattle.session.specs.declared.session.Session.{Session}
 use Rattle.handset.specs.Open.{openRefusal, openAnswer, openSheet}
 use Rattle.handset.proofs.Ordering.{none-before}
 use Rattle.handset.proofs.Defaults.{defaults-there}
-use Rattle.journal.specs.Journal.{Entry, allVisited, journalOf}
+use Rattle.journal.specs.Journal.{Answered, answered, allVisited, journalOf}
 use Rattle.journal.specs.Rules.{fieldAt, rulesOf, IsField, HoldsJournal}
-use Rattle.journal.specs.Sitting.{Sitting, begunWith, next, answerTo, played, entries, visitsIn}
+use Rattle.journal.specs.Sitting.{Sitting, begunWith, next, answerTo, played, answeredIn, visitsIn}
 use Rattle.journal.specs.Promises.{Candidate, visitsAt, bytesAt}
 use Rattle.journal.proofs.Steps.{away, final, log, Opened}
 use Rattle.journal.proofs.Whole.{bytes-are-journal, journal-is-visits}
@@ -52,16 +52,16 @@ unfolding played
 final-is im t [] = refl
 final-is im t (e ∷ es) = final-is im (next im t e) es
 
-log-is : (im : List ℕ) (t : Sitting) (es : List ℕ) → log (executor im) t es ≡ entries im t es
-unfolding entries
+log-is : (im : List ℕ) (t : Sitting) (es : List ℕ) → log (executor im) t es ≡ answeredIn im t es
+unfolding answeredIn
 log-is im t [] = refl
-log-is im t (e ∷ es) = ap (λ (xs : List Entry). record { event = e; answer = answerTo im t e } ∷ xs) (log-is im (next im t e) es)
+log-is im t (e ∷ es) = ap (λ (xs : List Answered). answered e (answerTo im t e) ∷ xs) (log-is im (next im t e) es)
 
 -- ---- the three claims
 
 module _ (im sheet : List ℕ) (columns lines : ℕ) (accepted : openRefusal im (length sheet) columns lines ≡ 0) (es : List ℕ) where
   -- A
-  pub sheet-holds-journal : HoldsJournal im (played im (begunWith im sheet columns lines) es .sheet) (journalOf (rulesOf im) (entries im (begunWith im sheet columns lines) es))
+  pub sheet-holds-journal : HoldsJournal im (played im (begunWith im sheet columns lines) es .sheet) (journalOf (rulesOf im) (answeredIn im (begunWith im sheet columns lines) es))
   sheet-holds-journal =
       record {
         same = λ q f.
@@ -75,7 +75,7 @@ module _ (im sheet : List ℕ) (columns lines : ℕ) (accepted : openRefusal im 
       ≡ allVisited (rulesOf im) q (bytesOf (fieldAt im q .default)) (visitsIn im (begunWith im sheet columns lines) es q)
   unfolding visitsIn
   default-changed-by-own-visits q f =
-      sheet-holds-journal .same q f ∙ journal-is-visits (rulesOf im) (entries im (begunWith im sheet columns lines) es) q
+      sheet-holds-journal .same q f ∙ journal-is-visits (rulesOf im) (answeredIn im (begunWith im sheet columns lines) es) q
 
 -- C: two candidates with the same finished visits at every field, in whatever order they went from field to field
 pub two-candidates : (im : List ℕ) (a b : Candidate im) → ((q : ℕ) → IsField im q → visitsAt a q ≡ visitsAt b q) → (q : ℕ) → IsField im q → bytesAt a q ≡ bytesAt b q

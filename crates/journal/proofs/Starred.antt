@@ -32,8 +32,8 @@ use Rattle.session.specs.Event.{stepIn, sheetIn}
 use Rattle.handset.specs.Refusals.{_before_, _unless_, sessionRefusal}
 use Rattle.handset.specs.Open.{openRefusal, openAnswer, defaultsWritten, openSheet}
 use Rattle.handset.specs.Event.{eventRefusal, eventStep, eventSheet}
-use Rattle.journal.specs.Journal.{Entry}
-use Rattle.journal.specs.Sitting.{Sitting, begunWith, next, answerTo, played, entries}
+use Rattle.journal.specs.Journal.{Answered}
+use Rattle.journal.specs.Sitting.{Sitting, begunWith, next, answerTo, played, answeredIn}
 use Rattle.journal.proofs.Examples.{counter, wideCounter, clock, threeDigits, returning, protecting}
 
 -- ---- a case
@@ -60,7 +60,7 @@ pub record Case : Type 0 where
 abbrev pub seenIn : List ℕ → Sitting → List ℕ → ℕ → Seen
 seenIn im t es k = record {
   refusal = k;
-  answers = map (λ (x : Entry). told (x .answer)) (entries im t es);
+  answers = map (λ (x : Answered). told (x .answer)) (answeredIn im t es);
   sheet = played im t es .sheet;
   table = played im t es .session .here .table .0;
   cursor = played im t es .session .here .cursor;
@@ -159,5 +159,5 @@ cases =
 
 -- every case comes out as listed
 pub starred : map runs cases ≡ map expected cases
-unfolding cases begunWith next answerTo played entries told eventRefusal eventStep eventSheet sessionRefusal openRefusal openAnswer defaultsWritten openSheet _before_ _unless_ stepIn sheetIn pressed nextEditable movedOn followed followedSheet visitStep visitSheet rightTo lastDigit digitStep entryStep firstFor upStep downStep descended rightStep firstEditable enterStep browseStep later passed browseSecond shapeFits cursorHead levelFits levelsFit tablesFit among workFits visitFits digitsTo entryFits modeFits sessionFits opened closed if_then_else_ _and_ wordAt room putAt fit digitsOf numberFrom lowFirst fromLow formatOf signsOf digitsIn baseOf limitOf halfOf topOf profileOf cellOf numberOf valueFrom spans distance inDigits shownBy minus storable ofDigits cellsOf storedIn inSpan stores within legalTo legal inRange workOf started finished places countedCells stepFits widthFits goodSettings settingsFit defaultWritten begun finishedIn key.raised key.lowered key.upKey key.downKey key.leftKey key.rightKey key.onRight key.digitKey key.partAfter key.enterKey imageOf textsFrom allDigits passwordFits titleBy titleAt headBy headAt fixedBytes textCount given kindAt defaultPlace sheetPlaceAt laidOut componentBy componentAt linesFrom linesOf componentsFrom componentsOf lineFrom lineAt lineCount fine andThen padded takeTitle agrees linePlaced countLine takeLine inSheet apartFrom takeField takeComponent onComponent onComponents onHead onTitle onSubmenu onBody onLine onLines onTable walked prologCode checked refusalOf
+unfolding cases begunWith next answerTo played answeredIn told eventRefusal eventStep eventSheet sessionRefusal openRefusal openAnswer defaultsWritten openSheet _before_ _unless_ stepIn sheetIn pressed nextEditable movedOn followed followedSheet visitStep visitSheet rightTo lastDigit digitStep entryStep firstFor upStep downStep descended rightStep firstEditable enterStep browseStep later passed browseSecond shapeFits cursorHead levelFits levelsFit tablesFit among workFits visitFits digitsTo entryFits modeFits sessionFits opened closed if_then_else_ _and_ wordAt room putAt fit digitsOf numberFrom lowFirst fromLow formatOf signsOf digitsIn baseOf limitOf halfOf topOf profileOf cellOf numberOf valueFrom spans distance inDigits shownBy minus storable ofDigits cellsOf storedIn inSpan stores within legalTo legal inRange workOf started finished places countedCells stepFits widthFits goodSettings settingsFit defaultWritten begun finishedIn key.raised key.lowered key.upKey key.downKey key.leftKey key.rightKey key.onRight key.digitKey key.partAfter key.enterKey imageOf textsFrom allDigits passwordFits titleBy titleAt headBy headAt fixedBytes textCount given kindAt defaultPlace sheetPlaceAt laidOut componentBy componentAt linesFrom linesOf componentsFrom componentsOf lineFrom lineAt lineCount fine andThen padded takeTitle agrees linePlaced countLine takeLine inSheet apartFrom takeField takeComponent onComponent onComponents onHead onTitle onSubmenu onBody onLine onLines onTable walked prologCode checked refusalOf
 starred = refl

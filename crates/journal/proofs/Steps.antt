@@ -6,7 +6,7 @@ use mathlib.Core.Bool.{Bool, true, false}
 use mathlib.Core.List.{List, [], _∷_}
 use Rattle.session.specs.declared.step.Answer.{Answer}
 use Rattle.session.specs.declared.step.Answer.the-variants as answer
-use Rattle.journal.specs.Journal.{Entry, Out, on, stored, Rules, counts, ignored}
+use Rattle.journal.specs.Journal.{Answered, answered, Out, on, stored, Rules, counts, ignored}
 
 -- the open visit of a field: its place and working copy. Browsing, password entry and the visit of a trigger are `away`
 pub data View (W : Type 0) : Type 0 where
@@ -24,9 +24,6 @@ pub record System (W S : Type 0) : Type 1 where
   -- how many parts of a visit are passed
   pub passed : ℕ → W → ℕ
 
-abbrev pub entry : ℕ → Answer → Entry
-entry e a = record { event = e; answer = a }
-
 abbrev pub isFinished : Answer → Bool
 isFinished answer.Taken = false
 isFinished answer.Flash = false
@@ -36,9 +33,9 @@ isFinished (answer.Refused n) = false
 
 module _ {W S : Type 0} (Y : System W S) where
   -- the events with their answers, oldest first
-  abbrev pub log : S → List ℕ → List Entry
+  abbrev pub log : S → List ℕ → List Answered
   log s [] = []
-  log s (e ∷ es) = entry e (Y .answer s e) ∷ log (Y .next s e) es
+  log s (e ∷ es) = answered e (Y .answer s e) ∷ log (Y .next s e) es
 
   abbrev pub final : S → List ℕ → S
   final s [] = s
@@ -56,22 +53,22 @@ module _ {W S : Type 0} (R : Rules W) (Y : System W S) where
 
   pub data Step (s : S) (e : ℕ) (s′ : S) (a : Answer) : Type 0 where
     -- a second or a refused event
-    skips : ignored (entry e a) ≡ true → Y .view s′ ≡ Y .view s → Kept Y s s′ → Step s e s′ a
+    skips : ignored (answered e a) ≡ true → Y .view s′ ≡ Y .view s → Kept Y s s′ → Step s e s′ a
     -- no visit is open afterwards, and none is finished
-    quiet : ignored (entry e a) ≡ false → isFinished a ≡ false → Y .view s′ ≡ away → Kept Y s s′ → Step s e s′ a
+    quiet : ignored (answered e a) ≡ false → isFinished a ≡ false → Y .view s′ ≡ away → Kept Y s s′ → Step s e s′ a
     -- an ENTER that opens a visit, or none
-    opens : ignored (entry e a) ≡ false → isFinished a ≡ false → counts (entry e a) ≡ true → Fresh s′ → Kept Y s s′ → Step s e s′ a
+    opens : ignored (answered e a) ≡ false → isFinished a ≡ false → counts (answered e a) ≡ true → Fresh s′ → Kept Y s s′ → Step s e s′ a
     -- a key within a part of a visit
     goes :
-        ignored (entry e a) ≡ false → isFinished a ≡ false → counts (entry e a) ≡ false → (p : ℕ) (w w′ : W) → Y .view s ≡ at p w → Y .view s′ ≡ at p w′ →
+        ignored (answered e a) ≡ false → isFinished a ≡ false → counts (answered e a) ≡ false → (p : ℕ) (w w′ : W) → Y .view s ≡ at p w → Y .view s′ ≡ at p w′ →
         R .press p w e ≡ on w′ → Y .passed p w′ ≡ Y .passed p w → Kept Y s s′ → Step s e s′ a
     -- an ENTER that passes a part
     passes :
-        ignored (entry e a) ≡ false → isFinished a ≡ false → counts (entry e a) ≡ true → (p : ℕ) (w w′ : W) → Y .view s ≡ at p w → Y .view s′ ≡ at p w′ →
+        ignored (answered e a) ≡ false → isFinished a ≡ false → counts (answered e a) ≡ true → (p : ℕ) (w w′ : W) → Y .view s ≡ at p w → Y .view s′ ≡ at p w′ →
         R .press p w e ≡ on w′ → Y .passed p w′ ≡ suc (Y .passed p w) → Kept Y s s′ → Step s e s′ a
     -- the last ENTER
     ends :
-        ignored (entry e a) ≡ false → counts (entry e a) ≡ true → (p : ℕ) (w : W) (v : List ℕ) → a ≡ answer.Finished (record { 0 = p }) → Y .view s ≡ at p w →
+        ignored (answered e a) ≡ false → counts (answered e a) ≡ true → (p : ℕ) (w : W) (v : List ℕ) → a ≡ answer.Finished (record { 0 = p }) → Y .view s ≡ at p w →
         R .press p w e ≡ stored v → R .opener p ≡ suc (suc (Y .passed p w)) → Y .read s′ p ≡ v →
         ((q : ℕ) → Y .Field q → q ≢ p → Y .read s′ q ≡ Y .read s q) → Fresh s′ → Step s e s′ a
 

@@ -10,8 +10,8 @@ use Rattle.laws.specs.Choice.{if_then_else_, _=?_}
 use Rattle.laws.proofs.Cases.{by-test}
 use Rattle.session.specs.declared.step.Answer.{Answer}
 use Rattle.session.specs.declared.step.Answer.the-variants as answer
-use Rattle.journal.specs.Journal.{Entry, Out, on, stored, Rules, counts, ignored, keep, after, events, onward, presses, left, visited, allVisited, Journal, update, noted, finishedKeys, withVisit, settled, fed, allFed, empty, journalOf}
-use Rattle.journal.proofs.Steps.{View, away, at, System, entry, isFinished, log, final, Kept, Fresh, none, begun, Step, skips, quiet, opens, goes, passes, ends, Lawful, Opened}
+use Rattle.journal.specs.Journal.{Answered, answered, Out, on, stored, Rules, counts, ignored, keep, after, keysOf, onward, presses, leaves, visited, allVisited, Journal, update, noted, finishedKeys, withVisit, settled, fed, allFed, empty, journalOf}
+use Rattle.journal.proofs.Steps.{View, away, at, System, isFinished, log, final, Kept, Fresh, none, begun, Step, skips, quiet, opens, goes, passes, ends, Lawful, Opened}
 
 -- a function that is `a` at p, and f elsewhere, is f updated
 updated : {A : Type 0} (f g : ℕ → A) (p : ℕ) (a : A) (q : ℕ) → g p ≡ a → (q ≢ p → g q ≡ f q) → g q ≡ update f p a q
@@ -26,15 +26,15 @@ module _ {W : Type 0} (R : Rules W) where
   settled-plain (answer.Fired p) j h = refl
   settled-plain (answer.Refused n) j h = refl
 
-  fed-skip : (j : Journal) (x : Entry) → ignored x ≡ true → fed R j x ≡ j
+  fed-skip : (j : Journal) (x : Answered) → ignored x ≡ true → fed R j x ≡ j
   unfolding if_then_else_
   fed-skip j x i = rw i
 
-  fed-plain : (j : Journal) (x : Entry) → ignored x ≡ false → isFinished (x .answer) ≡ false → fed R j x ≡ noted x j
+  fed-plain : (j : Journal) (x : Answered) → ignored x ≡ false → isFinished (x .answer) ≡ false → fed R j x ≡ noted x j
   unfolding if_then_else_
   fed-plain j x i h = rw i (settled-plain (x .answer) (noted x j) h)
 
-  fed-finished : (j : Journal) (x : Entry) (p : ℕ) → ignored x ≡ false → x .answer ≡ answer.Finished (record { 0 = p })
+  fed-finished : (j : Journal) (x : Answered) (p : ℕ) → ignored x ≡ false → x .answer ≡ answer.Finished (record { 0 = p })
       → fed R j x ≡ withVisit R p (finishedKeys R p (noted x j)) (noted x j)
   unfolding if_then_else_
   fed-finished j x p i h = rw (i, h)
@@ -53,26 +53,26 @@ module _ {W : Type 0} (R : Rules W) where
 
   -- the keys since the ENTER that opened a visit, n parts of it being passed, lead from the journal's bytes to the working copy
   record Leads (p : ℕ) (w : W) (n : ℕ) (j : Journal) : Type 0 where
-    leads : retraced p (on (R .start p (j .bytes p))) (events (after (suc n) (j .trace))) ≡ on w
+    leads : retraced p (on (R .start p (j .bytes p))) (keysOf (after (suc n) (j .trace))) ≡ on w
 
-  leads-start : (p : ℕ) (x : Entry) (j : Journal) → counts x ≡ true → Leads p (R .start p (j .bytes p)) 0 (noted x j)
+  leads-start : (p : ℕ) (x : Answered) (j : Journal) → counts x ≡ true → Leads p (R .start p (j .bytes p)) 0 (noted x j)
   unfolding if_then_else_
   leads-start p x j m = record { leads = rw m }
 
-  leads-on : {p n : ℕ} {j : Journal} {w w′ : W} {x : Entry} → Leads p w n j → counts x ≡ false → R .press p w (x .event) ≡ on w′ → Leads p w′ n (noted x j)
+  leads-on : {p n : ℕ} {j : Journal} {w w′ : W} {x : Answered} → Leads p w n j → counts x ≡ false → R .press p w (x .event) ≡ on w′ → Leads p w′ n (noted x j)
   unfolding if_then_else_
   leads-on h m o = record { leads = rw (m, h .leads) o }
 
-  leads-part : {p n : ℕ} {j : Journal} {w w′ : W} {x : Entry} → Leads p w n j → counts x ≡ true → R .press p w (x .event) ≡ on w′ → Leads p w′ (suc n) (noted x j)
+  leads-part : {p n : ℕ} {j : Journal} {w w′ : W} {x : Answered} → Leads p w n j → counts x ≡ true → R .press p w (x .event) ≡ on w′ → Leads p w′ (suc n) (noted x j)
   unfolding if_then_else_
   leads-part h m o = record { leads = rw (m, h .leads) o }
 
   -- the ENTER that finishes the visit: the journal's bytes become those that it stores
-  leads-end : {p n : ℕ} {j : Journal} {w : W} {v : List ℕ} (x : Entry) → Leads p w n j → counts x ≡ true → R .press p w (x .event) ≡ stored v → R .opener p ≡ suc (suc n)
+  leads-end : {p n : ℕ} {j : Journal} {w : W} {v : List ℕ} (x : Answered) → Leads p w n j → counts x ≡ true → R .press p w (x .event) ≡ stored v → R .opener p ≡ suc (suc n)
       → visited R p (j .bytes p) (finishedKeys R p (noted x j)) ≡ v
   unfolding if_then_else_
   leads-end {p} {j} x h m o c =
-      ap (left R p (j .bytes p)) (presses-reverse p (on (R .start p (j .bytes p))) (events (after (R .opener p) (x ∷ j .trace)))) ∙ rw (c, m, h .leads, o)
+      ap (leaves R p (j .bytes p)) (presses-reverse p (on (R .start p (j .bytes p))) (keysOf (after (R .opener p) (x ∷ j .trace)))) ∙ rw (c, m, h .leads, o)
 
 module _ {W S : Type 0} (R : Rules W) (Y : System W S) where
   -- the fields' bytes are the journal's
@@ -92,33 +92,33 @@ module _ {W S : Type 0} (R : Rules W) (Y : System W S) where
   kept inv k q f = k q f ∙ inv .same q f
 
   module _ (L : Lawful R Y) where
-    -- a visit that began with the newest entry
+    -- a visit that began with the newest event
     begin :
-        {s : S} {x : Entry} {t : List Entry} {vs : ℕ → List (List ℕ)} {bs : ℕ → List ℕ} → let j : Journal = record { trace = x ∷ t; visits = vs; bytes = bs } in
+        {s : S} {x : Answered} {t : List Answered} {vs : ℕ → List (List ℕ)} {bs : ℕ → List ℕ} → let j : Journal = record { trace = x ∷ t; visits = vs; bytes = bs } in
         counts x ≡ true → Same s j → Fresh R Y s → Inv s j
     begin m same (none v) = record { same = same; open′ = rw v tt }
     begin {x} {t} {vs} {bs} m same (begun q f v) =
         record { same = same; open′ = rw v (f, rw (L .passed-start, same q f) (leads-start R q x (record { trace = t; visits = vs; bytes = bs }) m)) }
 
-    step-inv : (s : S) (e : ℕ) (j : Journal) → Inv s j → Step R Y s e (Y .next s e) (Y .answer s e) → Inv (Y .next s e) (fed R j (entry e (Y .answer s e)))
-    step-inv s e j inv (skips i v k) = rw (fed-skip R j (entry e (Y .answer s e)) i) (record { same = kept inv k; open′ = rw v (inv .open′) })
-    step-inv s e j inv (quiet i h v k) = rw (fed-plain R j (entry e (Y .answer s e)) i h) (record { same = kept inv k; open′ = rw v tt })
-    step-inv s e j inv (opens i h m f k) = rw (fed-plain R j (entry e (Y .answer s e)) i h) (begin m (kept inv k) f)
+    step-inv : (s : S) (e : ℕ) (j : Journal) → Inv s j → Step R Y s e (Y .next s e) (Y .answer s e) → Inv (Y .next s e) (fed R j (answered e (Y .answer s e)))
+    step-inv s e j inv (skips i v k) = rw (fed-skip R j (answered e (Y .answer s e)) i) (record { same = kept inv k; open′ = rw v (inv .open′) })
+    step-inv s e j inv (quiet i h v k) = rw (fed-plain R j (answered e (Y .answer s e)) i h) (record { same = kept inv k; open′ = rw v tt })
+    step-inv s e j inv (opens i h m f k) = rw (fed-plain R j (answered e (Y .answer s e)) i h) (begin m (kept inv k) f)
     step-inv s e j inv (goes i h m p w w′ v v′ o c k) =
         let n = rw v at (inv .open′) in
-        rw (fed-plain R j (entry e (Y .answer s e)) i h) (record { same = kept inv k; open′ = rw (v′, c) (n .0, leads-on R (n .1) m o) })
+        rw (fed-plain R j (answered e (Y .answer s e)) i h) (record { same = kept inv k; open′ = rw (v′, c) (n .0, leads-on R (n .1) m o) })
     step-inv s e j inv (passes i h m p w w′ v v′ o c k) =
         let n = rw v at (inv .open′) in
-        rw (fed-plain R j (entry e (Y .answer s e)) i h) (record { same = kept inv k; open′ = rw (v′, c) (n .0, leads-part R (n .1) m o) })
+        rw (fed-plain R j (answered e (Y .answer s e)) i h) (record { same = kept inv k; open′ = rw (v′, c) (n .0, leads-part R (n .1) m o) })
     step-inv s e j inv (ends i m p w y a v o c r k f) =
         let n = rw v at (inv .open′) in
-        rw (fed-finished R j (entry e (Y .answer s e)) p i a)
+        rw (fed-finished R j (answered e (Y .answer s e)) p i a)
         (begin m
-        (λ q g. updated (j .bytes) (Y .read (Y .next s e)) p _ q (r ∙ sym (leads-end R (entry e (Y .answer s e)) (n .1) m o c)) (λ d. k q g d ∙ inv .same q g)) f)
+        (λ q g. updated (j .bytes) (Y .read (Y .next s e)) p _ q (r ∙ sym (leads-end R (answered e (Y .answer s e)) (n .1) m o c)) (λ d. k q g d ∙ inv .same q g)) f)
 
     inv-all : (es : List ℕ) (s : S) (j : Journal) → Inv s j → Inv (final Y s es) (allFed R j (log Y s es))
     inv-all [] s j inv = inv
-    inv-all (e ∷ es) s j inv = inv-all es (Y .next s e) (fed R j (entry e (Y .answer s e))) (step-inv s e j inv (L .step s e))
+    inv-all (e ∷ es) s j inv = inv-all es (Y .next s e) (fed R j (answered e (Y .answer s e))) (step-inv s e j inv (L .step s e))
 
     -- A: after any list of events that follows an opening, each field's bytes are the journal's
     pub bytes-are-journal : (s : S) → Opened R Y s → (es : List ℕ) → Same (final Y s es) (journalOf R (log Y s es))
@@ -150,14 +150,14 @@ module _ {W : Type 0} (R : Rules W) where
   own-settled (answer.Fired p) j h = h
   own-settled (answer.Refused n) j h = h
 
-  own-fed : (j : Journal) (x : Entry) → Own j → Own (fed R j x)
+  own-fed : (j : Journal) (x : Answered) → Own j → Own (fed R j x)
   unfolding if_then_else_
   own-fed j x h = by-test (ignored x) (λ e. rw e h) (λ e. rw e (own-settled (x .answer) (noted x j) h))
 
-  own-all : (xs : List Entry) (j : Journal) → Own j → Own (allFed R j xs)
+  own-all : (xs : List Answered) (j : Journal) → Own j → Own (allFed R j xs)
   own-all [] j h = h
   own-all (x ∷ xs) j h = own-all xs (fed R j x) (own-fed j x h)
 
   -- B: of any journal, whatever it was fed
-  pub journal-is-visits : (xs : List Entry) → Own (journalOf R xs)
+  pub journal-is-visits : (xs : List Answered) → Own (journalOf R xs)
   journal-is-visits xs = own-all xs (empty R) (λ q. refl)

@@ -24,7 +24,7 @@ use Rattle.handset.specs.Draw.{drawRefusal, drawCursor, drawnPicture}
 use Rattle.handset.specs.OptionText.{textRefusal, optionText}
 use Rattle.journal.specs.Journal.{allVisited, journalOf}
 use Rattle.journal.specs.Rules.{fieldAt, rulesOf, IsField, HoldsJournal}
-use Rattle.journal.specs.Sitting.{Sitting, begunWith, next, answerTo, played, entries, visitsIn}
+use Rattle.journal.specs.Sitting.{Sitting, begunWith, next, answerTo, played, answeredIn, visitsIn}
 use Rattle.journal.specs.Protected.{OpenedByDigits, Unlocked}
 use Rattle.journal.specs.Unrefused.{NothingRefused}
 
@@ -69,9 +69,9 @@ pub record Demand2 : Type 0 where
   -- a protected line opens its submenu only after its own digits
   pub protected : (im sheet : List ℕ) (columns lines : ℕ) (es : List ℕ) (e : ℕ) → let t = played im (begunWith im sheet columns lines) es in
       cursorHead im (t .session .here) .protected ≡ true → t .session .outer < next im t e .session .outer
-      → OpenedByDigits im (cursorHead im (t .session .here)) (next im t e) (answerTo im t e) (entries im (begunWith im sheet columns lines) (es ++ (e ∷ [])))
+      → OpenedByDigits im (cursorHead im (t .session .here)) (next im t e) (answerTo im t e) (answeredIn im (begunWith im sheet columns lines) (es ++ (e ∷ [])))
   pub unlocked : (im sheet : List ℕ) (columns lines : ℕ) (es : List ℕ) (k : ℕ) → let s = played im (begunWith im sheet columns lines) es .session in
-      k < s .outer → cursorHead im (getD (s .above) k noLevel) .protected ≡ true → Unlocked im (begunWith im sheet columns lines) es (getD (s .above) k noLevel)
+      k < s .outer → cursorHead im (getD (s .above) k noLevel) .protected ≡ true → Unlocked im (begunWith im sheet columns lines) es k (getD (s .above) k noLevel)
 
 -- ---- demand 3: whole sittings
 
@@ -99,7 +99,7 @@ module _ {im : List ℕ} (c : Candidate im) where
 
 pub record Demand3 : Type 0 where
   -- after any list of events each field's bytes are the journal's
-  pub journal : {im : List ℕ} (c : Candidate im) → HoldsJournal im (end c .sheet) (journalOf (rulesOf im) (entries im (start c) (c .events)))
+  pub journal : {im : List ℕ} (c : Candidate im) → HoldsJournal im (end c .sheet) (journalOf (rulesOf im) (answeredIn im (start c) (c .events)))
   -- so they are its default changed by its own finished visits one after another, whatever was done elsewhere between them
   pub visits : {im : List ℕ} (c : Candidate im) (q : ℕ) → IsField im q → bytesAt c q ≡ allVisited (rulesOf im) q (bytesOf (fieldAt im q .default)) (visitsAt c q)
   -- two candidates with the same finished visits at each field have the same bytes at each field

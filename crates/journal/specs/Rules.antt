@@ -32,7 +32,8 @@ openerOf (Switch n) = 2
 openerOf (Option n w) = 2
 openerOf Trigger = 2
 
--- what follows for the visit from a key's outcome, with the working copy v that the key gave: a flash leaves the copy w, and only the last ENTER stores
+-- what follows for the visit from a key's outcome, with the working copy v that the key gave: a flash leaves the copy w, and only the last ENTER
+-- stores. Fired and Passed are a trigger's, which has no bytes and no finished visit
 unfoldable pub outOf : Kind → Work → Work → Outcome → Out Work
 outOf k w v outcome.Taken = on v
 outOf k w v outcome.Flash = on w
@@ -41,12 +42,15 @@ outOf k w v outcome.Done = stored (bytesOf (finished k v))
 outOf k w v outcome.Fired = on w
 outOf k w v outcome.Passed = on w
 
+-- 01, Keys: what a key makes of a visit
 abbrev pub pressedOut : Kind → Work → ℕ → Out Work
 pressedOut k w e = outOf k w (pressed k w e .work) (pressed k w e .outcome)
 
+-- 01, Fields: a visit starts from the field's bytes, or from its default where they are out of range
 abbrev pub startOf : Field → List ℕ → Work
 startOf f b = started (f .kind) (valueOf (sizeOf f) b) (f .default)
 
+-- the rules of an image
 abbrev pub rulesOf : List ℕ → Rules Work
 rulesOf im = record {
   default = λ p. bytesOf (fieldAt im p .default);
@@ -55,8 +59,8 @@ rulesOf im = record {
   opener = λ p. openerOf (fieldAt im p .kind);
 }
 
--- a field of an image stands at a place: with a sheet that is long enough the image is well formed, and what is read there is one of its fields.
--- The fields are the same for every sheet (`walk` `same-fields`)
+-- a field of an image stands at a place: for some length of the sheet the image is well formed, and what is read at the place is one of its fields.
+-- Every field of the image is one (`Promises`, `every-field`), and the fields are the same for every sheet (`walk` `same-fields`)
 pub record IsField (im : List ℕ) (q : ℕ) : Type 0 where
   pub sheet : ℕ
   pub formed : WellFormed im sheet

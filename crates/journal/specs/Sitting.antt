@@ -6,7 +6,7 @@ use Rattle.session.specs.declared.session.Session.{Session}
 use Rattle.session.specs.declared.step.Answer.{Answer}
 use Rattle.handset.specs.Open.{openAnswer, openSheet}
 use Rattle.handset.specs.Event.{eventStep, eventSheet}
-use Rattle.journal.specs.Journal.{Entry, journalOf}
+use Rattle.journal.specs.Journal.{Answered, answered, journalOf}
 use Rattle.journal.specs.Rules.{rulesOf}
 
 -- what the calls hand on
@@ -35,10 +35,10 @@ played im t [] = t
 played im t (e ∷ es) = played im (next im t e) es
 
 -- the events with their answers, oldest first
-unfoldable pub entries : List ℕ → Sitting → List ℕ → List Entry
-entries im t [] = []
-entries im t (e ∷ es) = record { event = e; answer = answerTo im t e } ∷ entries im (next im t e) es
+unfoldable pub answeredIn : List ℕ → Sitting → List ℕ → List Answered
+answeredIn im t [] = []
+answeredIn im t (e ∷ es) = answered e (answerTo im t e) ∷ answeredIn im (next im t e) es
 
 -- the finished visits of the field at a place, as the journal finds them, oldest first
 unfoldable pub visitsIn : List ℕ → Sitting → List ℕ → ℕ → List (List ℕ)
-visitsIn im t es q = journalOf (rulesOf im) (entries im t es) .visits q
+visitsIn im t es q = journalOf (rulesOf im) (answeredIn im t es) .visits q

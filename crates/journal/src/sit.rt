@@ -4,7 +4,7 @@ ghost use lib.ListN.{length};
 ghost use Rattle.handset.specs.Open.{openRefusal};
 ghost use Rattle.journal.specs.Journal.{journalOf};
 ghost use Rattle.journal.specs.Rules.{rulesOf, HoldsJournal};
-ghost use Rattle.journal.specs.Sitting.{sitting, begunWith, played, entries};
+ghost use Rattle.journal.specs.Sitting.{sitting, begunWith, played, answeredIn};
 use handset::event::event;
 use handset::open::open;
 use session::session::Session;
@@ -29,7 +29,7 @@ pub fn play(image: &[u8], sheet: &mut [u8], session: Session, events: &[u8]) -> 
 pub fn sit(image: &[u8], sheet: &mut [u8], columns: u8, lines: u8, events: &[u8]) -> Session
     ensures { λ r. ⌜ r ≡ played (now (image .entry)) (begunWith (now (image .entry)) (now (sheet .entry)) columns lines) (now (events .entry)) .session ⌝ }
     ensures { λ _. ⌜ now (sheet .exit) ≡ played (now (image .entry)) (begunWith (now (image .entry)) (now (sheet .entry)) columns lines) (now (events .entry)) .sheet ⌝ }
-    ensures { λ _. ⌜ (openRefusal (now (image .entry)) (length (now (sheet .entry))) columns lines ≡ 0 → HoldsJournal (now (image .entry)) (now (sheet .exit)) (journalOf (rulesOf (now (image .entry))) (entries (now (image .entry)) (begunWith (now (image .entry)) (now (sheet .entry)) columns lines) (now (events .entry))))) ⌝ }
+    ensures { λ _. ⌜ (openRefusal (now (image .entry)) (length (now (sheet .entry))) columns lines ≡ 0 → HoldsJournal (now (image .entry)) (now (sheet .exit)) (journalOf (rulesOf (now (image .entry))) (answeredIn (now (image .entry)) (begunWith (now (image .entry)) (now (sheet .entry)) columns lines) (now (events .entry))))) ⌝ }
 {
     let opened = open(image, &mut *sheet, columns, lines);
     let session = opened.session;

@@ -4,3 +4,4 @@ pub mod Moving
 pub mod Entering
 pub mod Visiting
 pub mod Closed
+pub mod Answers

@@ -13,6 +13,7 @@ use Rattle.cmf.specs.Limits.{prologBytes, deepestTable}
 use Rattle.cmf.specs.Readers.{headAt, componentAt}
 use Rattle.cmf.specs.Places.{componentsOf, lineAt, lineCount}
 use Rattle.cmf.specs.declared.head.Head.{Head}
+use Rattle.session.specs.Events.{lastDigitKey}
 use Rattle.session.specs.declared.session.Level.{Level}
 use Rattle.session.specs.declared.session.Mode.{Mode}
 use Rattle.session.specs.declared.session.Mode.the-variants as mode
@@ -76,7 +77,7 @@ visitFits im s p =
 -- the first n numbers are digits
 unfoldable pub digitsTo : List ℕ → ℕ → Bool
 digitsTo ds zero = true
-digitsTo ds (suc n) = digitsTo ds n and (getD ds n 0 ≤? 9)
+digitsTo ds (suc n) = digitsTo ds n and (getD ds n 0 ≤? lastDigitKey)
 
 -- a password entry is for a protected submenu of the cursor line and keeps the digits typed, fewer than it has
 unfoldable pub entryFits : List ℕ → Session → ℕ → Bool

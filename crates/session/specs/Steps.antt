@@ -11,14 +11,23 @@ use Rattle.session.specs.declared.step.Answer.{Answer}
 use Rattle.session.specs.declared.step.Answer.the-variants as answer
 use Rattle.session.specs.declared.step.Stepped.{Stepped}
 
--- the answer's number, with the image place of the component or the refusal number: the numbers of the later requests and of the firmware library.
--- A place in an accepted image is below 32,768, so that no two answers share a number
+-- an answer's number, with its image place or refusal number added: 0, 1, 65,536 and 131,072 are those of request 2; a refusal has 2^24 added, so
+-- that answers in an accepted image, whose places are below 32,768, never share a number (`proofs/Answers`)
+abbrev pub finishedFrom : ℕ
+finishedFrom = 65536
+
+abbrev pub firedFrom : ℕ
+firedFrom = 131072
+
+abbrev pub refusedFrom : ℕ
+refusedFrom = 16777216
+
 unfoldable pub told : Answer → ℕ
 told answer.Taken = 0
 told answer.Flash = 1
-told (answer.Finished p) = 65536 + p .0
-told (answer.Fired p) = 131072 + p .0
-told (answer.Refused n) = 16777216 + n
+told (answer.Finished p) = finishedFrom + p .0
+told (answer.Fired p) = firedFrom + p .0
+told (answer.Refused n) = refusedFrom + n
 
 -- 01's terms: the key was heeded; it could not be
 abbrev pub taken : Session → Stepped

@@ -122,7 +122,7 @@ impl Session {
     pub fn above_at(self, k: usize) -> Level
         ensures { λ r. ⌜ r ≡ getD (self .above) k noLevel ⌝ }
     {
-        if k < 7 {
+        if k < Session::MAX_ABOVE {
             return self.above[k];
         }
         Level {
@@ -185,7 +185,7 @@ impl Session {
         let count = n as usize;
         let mut i = 0;
         while i < count {
-            if 9 < byte_at(&typed, i) {
+            if Session::LAST_DIGIT < byte_at(&typed, i) {
                 return false;
             }
             i = i + 1;

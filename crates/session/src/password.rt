@@ -9,10 +9,11 @@ use crate::session::Mode;
 use crate::session::Session;
 use crate::step::Stepped;
 use cmf::head::Head;
+use cmf::image::Image;
 use laws::byte_at;
 
 // Whether the first count digits typed are those of the password that stands at a place.
-fn is_right(image: &[u8], password: usize, typed: [u8; 8], count: usize) -> bool
+fn is_right(image: &[u8], password: usize, typed: [u8; Image::MAX_PASSWORD], count: usize) -> bool
     requires { ⌜ count ≤ 256 ⌝ }
     ensures { λ r. ⌜ r ≡ rightTo (now (image .entry)) (password + 1) typed count ⌝ }
 {
@@ -31,12 +32,12 @@ fn is_right(image: &[u8], password: usize, typed: [u8; 8], count: usize) -> bool
     true
 }
 
-fn with_digit(typed: [u8; 8], n: u8, d: u8) -> [u8; 8]
+fn with_digit(typed: [u8; Image::MAX_PASSWORD], n: u8, d: u8) -> [u8; Image::MAX_PASSWORD]
     ensures { λ r. ⌜ r ≡ set typed n d ⌝ }
 {
     let mut next = typed;
     let at = n as usize;
-    if at < 8 {
+    if at < Image::MAX_PASSWORD {
         next[at] = d;
     }
     next
@@ -44,7 +45,7 @@ fn with_digit(typed: [u8; 8], n: u8, d: u8) -> [u8; 8]
 
 impl Session {
     // All of the digits are typed.
-    fn last_digit(self, image: &[u8], h: Head, typed: [u8; 8], count: usize) -> Stepped
+    fn last_digit(self, image: &[u8], h: Head, typed: [u8; Image::MAX_PASSWORD], count: usize) -> Stepped
         requires { ⌜ count ≤ 256 ⌝ }
         ensures { λ r. ⌜ r ≡ lastDigit (now (image .entry)) self h typed count ⌝ }
     {
@@ -88,7 +89,7 @@ impl Session {
         match event {
             Session::SECOND => self.entry_second(image),
             Session::LEFT => awake.give_up(),
-            0..=9 => awake.type_digit(image, count, event),
+            0..=Session::LAST_DIGIT => awake.type_digit(image, count, event),
             _ => awake.flash(),
         }
     }

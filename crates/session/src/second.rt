@@ -11,10 +11,10 @@ use field::kind::ImagePlace;
 fn later(idle: u8) -> u8
     ensures { λ r. ⌜ r ≡ later idle ⌝ }
 {
-    if idle < 255 {
+    if idle < Session::MAX_IDLE {
         return idle + 1;
     }
-    255
+    Session::MAX_IDLE
 }
 
 // Whether a delay has passed; 0 stands for never.

@@ -25,16 +25,18 @@ pub struct Session {
     pub columns: u8,
     pub lines: u8,
     pub outer: u8,
-    pub above: [Level; 7],
+    pub above: [Level; Session::MAX_ABOVE],
     pub here: Level,
     pub idle: u8,
     pub mode: Mode,
     pub work: Work,
-    pub typed: [u8; 8],
+    pub typed: [u8; Image::MAX_PASSWORD],
 }
 
 impl Session {
-    // Events 0 to 9 are the digits.
+    // Events 0 to this one are the digits.
+    pub const LAST_DIGIT: u8 = 9;
+
     pub const POINT: u8 = 10;
 
     pub const UP: u8 = 11;
@@ -56,6 +58,12 @@ impl Session {
     pub const MIN_ROWS: u8 = 2;
 
     pub const MAX_ROWS: u8 = 4;
+
+    // The idle count stays here.
+    pub const MAX_IDLE: u8 = 255;
+
+    // Tables that can be open above the shown one.
+    pub const MAX_ABOVE: usize = Image::MAX_DEPTH - 1;
 
     // The top table at its first line, browsing.
     pub fn opened(columns: u8, lines: u8) -> Self

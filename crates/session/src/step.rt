@@ -4,6 +4,7 @@ ghost use Rattle.session.specs.Steps.{taken, flash, withIdle, withHere, 
 use crate::session::Level;
 use crate::session::Mode;
 use crate::session::Session;
+use cmf::image::Image;
 use field::kind::ImagePlace;
 use field::work::Work;
 
@@ -57,7 +58,7 @@ impl Session {
     }
 
     // Another mode, working copy and digits typed.
-    pub(crate) fn doing(self, mode: Mode, work: Work, typed: [u8; 8]) -> Self
+    pub(crate) fn doing(self, mode: Mode, work: Work, typed: [u8; Image::MAX_PASSWORD]) -> Self
         ensures { λ r. ⌜ r ≡ doing self mode work typed ⌝ }
     {
         let above = self.above;

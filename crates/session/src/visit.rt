@@ -32,7 +32,7 @@ fn press(kind: Kind, work: Work, event: u8) -> Pressed
         Session::LEFT => work.left(p, c),
         Session::RIGHT => work.right(p, c),
         Session::ENTER => work.enter(kind),
-        0..=9 => work.digit(p, c, event),
+        0..=Session::LAST_DIGIT => work.digit(p, c, event),
         _ => Pressed {
             work,
             outcome: Outcome::Flash,

@@ -1,0 +1,49 @@
+-- No two answers share a number where image places are below 65,536: each answer is found again from its number.
+use Prim.Native.Nat.{ℕ, _+_, _-_, _<_}
+use mathlib.Core.Path.{_≡_, refl, sym, ap, _∙_}
+use native.Mathlib.Omega.{arith}
+use Rattle.laws.specs.Choice.{if_then_else_, _=?_, _<?_}
+use Rattle.laws.proofs.Cases.{if-lt, if-ge, if-ne}
+use Rattle.field.specs.declared.kind.ImagePlace.{ImagePlace}
+use Rattle.session.specs.Steps.{finishedFrom, firedFrom, refusedFrom, told}
+use Rattle.session.specs.declared.step.Answer.{Answer}
+use Rattle.session.specs.declared.step.Answer.the-variants as answer
+
+-- an answer whose place is below 65,536
+abbrev pub Near : Answer → Type 0
+Near answer.Taken = Unit {0}
+Near answer.Flash = Unit {0}
+Near (answer.Finished p) = p .0 < finishedFrom
+Near (answer.Fired p) = p .0 < finishedFrom
+Near (answer.Refused n) = Unit {0}
+
+abbrev place : ℕ → ImagePlace
+place n = record { 0 = n }
+
+-- the answer with a number
+abbrev answerOf : ℕ → Answer
+answerOf n =
+    if n =? 0 then answer.Taken
+    else if n <? finishedFrom then answer.Flash
+    else if n <? firedFrom then answer.Finished (place (n - finishedFrom))
+    else if n <? refusedFrom then answer.Fired (place (n - firedFrom))
+    else answer.Refused (n - refusedFrom)
+
+again : (a : Answer) → Near a → answerOf (told a) ≡ a
+unfolding told if_then_else_
+again answer.Taken h = refl
+again answer.Flash h = refl
+again (answer.Finished p) h =
+    if-ne (finishedFrom + p .0) 0 _ _ (λ e. omega arith) ∙ if-ge (finishedFrom + p .0) finishedFrom _ _ (omega arith)
+    ∙ if-lt (finishedFrom + p .0) firedFrom _ _ (omega arith) ∙ ap (λ (n : ℕ). answer.Finished (place n)) (omega arith)
+again (answer.Fired p) h =
+    if-ne (firedFrom + p .0) 0 _ _ (λ e. omega arith) ∙ if-ge (firedFrom + p .0) finishedFrom _ _ (omega arith)
+    ∙ if-ge (firedFrom + p .0) firedFrom _ _ (omega arith) ∙ if-lt (firedFrom + p .0) refusedFrom _ _ (omega arith)
+    ∙ ap (λ (n : ℕ). answer.Fired (place n)) (omega arith)
+again (answer.Refused k) h =
+    if-ne (refusedFrom + k) 0 _ _ (λ e. omega arith) ∙ if-ge (refusedFrom + k) finishedFrom _ _ (omega arith)
+    ∙ if-ge (refusedFrom + k) firedFrom _ _ (omega arith) ∙ if-ge (refusedFrom + k) refusedFrom _ _ (omega arith)
+    ∙ ap (λ (n : ℕ). answer.Refused n) (omega arith)
+
+pub told-once : (a b : Answer) → Near a → Near b → told a ≡ told b → a ≡ b
+told-once a b h k e = sym (again a h) ∙ ap answerOf e ∙ again b k
