@@ -22,16 +22,9 @@ use Rattle.cmf.proofs.Agreeing.{agree}
 use Rattle.walk.specs.Check.{entryOf, checked, refusalOf}
 use Rattle.walk.proofs.Acceptance.{accepted-exactly-when-well-formed, counted}
 use Rattle.walk.proofs.Fields.{every-table}
-use Rattle.handset.specs.OptionText.{reached, itemsIn, textRefusal, optionText}
+use Rattle.handset.specs.OptionText.{reached, itemsIn, textRefusal, optionText, ItemIs}
 use Rattle.handset.proofs.Ordering.{none-before, none-unless}
 use Rattle.handset.proofs.Finding.{text-some}
-
--- ---- the statement
-
--- a text is the item's: all of the item is in the image, and the text is the bytes behind its length byte, as many as that says
-pub record ItemIs (im : List ℕ) (place item : ℕ) (text : List ℕ) : Type 0 where
-  pub inside : itemPlace im place item + 1 + byteAt im (itemPlace im place item) ≤ length im
-  pub bytes : text ≡ partAt (itemPlace im place item + 1) (byteAt im (itemPlace im place item)) im
 
 -- ---- texts one behind the other
 

@@ -1,8 +1,12 @@
 -- 01, The four calls: the option text. It takes image and sheet and no session.
-use Prim.Native.Nat.{ℕ}
+use Prim.Native.Nat.{ℕ, _+_, _≤_}
+use mathlib.Core.Path.{_≡_}
 use mathlib.Core.Bool.{Bool, true, false}
 use mathlib.Core.List.{List, [], _∷_}
+use lib.ListN.{length}
 use Rattle.laws.specs.Choice.{if_then_else_, _and_, _=?_, _<?_}
+use Rattle.laws.specs.Bytes.{byteAt}
+use Rattle.laws.specs.Parts.{partAt}
 use Rattle.field.specs.declared.kind.Kind.{Kind}
 use Rattle.field.specs.declared.kind.Kind.the-variants.{Integer, Counter, Time, Date, Switch, Option, Trigger}
 use Rattle.cmf.specs.Readers.{textBytes, itemPlace, componentAt}
@@ -35,3 +39,8 @@ textRefusal im sheet place item =
 unfoldable pub optionText : List ℕ → ℕ → ℕ → ℕ → List ℕ
 optionText im sheet place item =
     if textRefusal im sheet place item =? 0 then textBytes im (itemPlace im place item) else []
+
+-- a text is the item's: all of the item is in the image, and the text is the bytes behind its length byte, as many as that says
+pub record ItemIs (im : List ℕ) (place item : ℕ) (text : List ℕ) : Type 0 where
+  pub inside : itemPlace im place item + 1 + byteAt im (itemPlace im place item) ≤ length im
+  pub bytes : text ≡ partAt (itemPlace im place item + 1) (byteAt im (itemPlace im place item)) im

@@ -307,6 +307,9 @@ module _ (im : List ℕ) where
       known : List·Memᴰ f (w .fields)
       known = line-known (p .0) on-this-line editable
 
+      pub visited-field : IsField im (p .0)
+      visited-field = on-line (p .0) on-this-line editable
+
       -- the view, as the visit goes on with a working copy
       seen : fires (p .0) ≡ false → viewOf s ≡ at (p .0) (s .work)
       seen h = rw m (view-visit (s .work) p h)

@@ -25,7 +25,12 @@ use Rattle.session.specs.declared.session.Mode.{Mode}
 use Rattle.session.specs.declared.session.Mode.the-variants as mode
 use Rattle.session.specs.declared.session.Session.{Session}
 use Rattle.session.specs.declared.step.Stepped.{Stepped}
-use Rattle.journal.specs.Unrefused.{Sized}
+
+-- the arrays of a session have the lengths that their types say; as lists they could have any
+pub record Sized (s : Session) : Type 0 where
+  pub above : length (s .above) ≡ 7
+  pub typed : length (s .typed) ≡ 8
+  pub cells : length (s .work .cells) ≡ 32
 
 -- ---- one level
 

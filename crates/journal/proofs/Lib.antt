@@ -4,6 +4,7 @@ pub mod Steps
 pub mod Whole
 pub mod Executor
 pub mod Sittings
+pub mod Beside
 pub mod Playing
 pub mod Passwords
 pub mod Moves

@@ -18,9 +18,12 @@ use Rattle.handset.specs.OptionText.{textRefusal, optionText}
 use Rattle.handset.specs.Draw.{drawRefusal, drawCursor, drawnPicture}
 use Rattle.handset.proofs.Stepping.{refused-step, refused-sheet, stepped, stepped-sheet}
 use Rattle.handset.proofs.Defaults.{Standing, all, others-stay}
-use Rattle.journal.specs.Rules.{fieldAt, IsField}
+use Rattle.handset.proofs.Items.{item-is}
+use Rattle.journal.specs.Rules.{fieldAt, IsField, Beside}
+use Rattle.journal.specs.Sitting.{begunWith}
 use Rattle.journal.specs.Promises.{Demand1, Demand2, Demand3, Candidate, start, end, visitsAt, bytesAt}
-use Rattle.journal.proofs.Sittings.{formed, at-default, sheet-holds-journal, default-changed-by-own-visits, two-candidates}
+use Rattle.journal.proofs.Sittings.{formed, at-default, sheet-holds-journal, default-changed-by-own-visits, own-visits-finish, two-candidates}
+use Rattle.journal.proofs.Beside.{played-apart}
 use Rattle.journal.proofs.Protected.{only-after-its-digits, every-protected-line-was-opened-by-its-digits}
 use Rattle.journal.proofs.Unrefused.{never-refused}
 
@@ -45,23 +48,29 @@ field-stands im n w g m =
 
 -- what lies apart from every place of a field lies apart from every field
 apart-from-fields : (im : List ℕ) (n : ℕ) (w : WellFormed im n) (from k : ℕ)
-    → ((q : ℕ) → IsField im q → (from + k ≤ fieldAt im q .sheet .0) ⊎ (fieldAt im q .sheet .0 + sizeOf (fieldAt im q) ≤ from))
-    → (g : Field) → List·Memᴰ g (w .fields) → (from + k ≤ g .sheet .0) ⊎ (g .sheet .0 + sizeOf g ≤ from)
-apart-from-fields im n w from k h g m = let f = field-stands im n w g m in rw (f .0) at (h (g .image .0) (f .1))
+    → Beside im from k → (g : Field) → List·Memᴰ g (w .fields) → (from + k ≤ g .sheet .0) ⊎ (g .sheet .0 + sizeOf g ≤ from)
+apart-from-fields im n w from k h g m = let f = field-stands im n w g m in rw (f .0) at (h .beside (g .image .0) (f .1))
+
+sheet-beside : (im sheet : List ℕ) (columns lines : ℕ) (h : openRefusal im (length sheet) columns lines ≡ 0) (from n : ℕ) → Beside im from n
+    → partAt from n (begunWith im sheet columns lines .sheet) ≡ partAt from n sheet
+unfolding begunWith openSheet
+sheet-beside im sheet columns lines h from n b =
+    ap (partAt from n) (if-eq (openRefusal im (length sheet) columns lines) 0 _ _ h)
+    ∙ others-stay im sheet (formed im sheet columns lines h) from n (apart-from-fields im (length sheet) (formed im sheet columns lines h) from n b)
 
 pub demand-2 : Demand2
-unfolding openAnswer openSheet drawCursor drawnPicture
+unfolding begunWith openAnswer drawCursor drawnPicture
 demand-2 = record {
   accepted = accepted-exactly-when-well-formed;
   opens = λ im sheet columns lines h. if-eq (openRefusal im sheet columns lines) 0 _ _ h;
   defaults = at-default;
-  nothing-else = λ im sheet columns lines h from n a.
-      ap (partAt from n) (if-eq (openRefusal im (length sheet) columns lines) 0 _ _ h)
-      ∙ others-stay im sheet (formed im sheet columns lines h) from n (apart-from-fields im (length sheet) (formed im sheet columns lines h) from n a);
+  nothing-else = sheet-beside;
+  every-field = field-stands;
   steps = λ im sheet s e h. sym (stepped im sheet s e _ refl h);
   stores = λ im sheet s e h. sym (stepped-sheet im sheet s e _ refl h);
   draws = λ im sheet s picture h. if-eq (drawRefusal im (length sheet) s (length picture)) 0 _ _ h;
   points = λ im sheet s n h. if-eq (drawRefusal im sheet s n) 0 _ _ h;
+  texts = item-is;
   protected = only-after-its-digits;
   unlocked = every-protected-line-was-opened-by-its-digits;
 }
@@ -70,6 +79,10 @@ pub demand-3 : Demand3
 demand-3 = record {
   journal = λ {im} c. sheet-holds-journal im (c .sheet) (c .columns) (c .lines) (c .accepted) (c .events);
   visits = λ {im} c q f. default-changed-by-own-visits im (c .sheet) (c .columns) (c .lines) (c .accepted) (c .events) q f;
-  candidates = λ {im} a b h q f. two-candidates im a b h q f;
+  finishes = λ {im} c q. own-visits-finish im (c .sheet) (c .columns) (c .lines) (c .accepted) (c .events) q;
+  candidates = λ {im} a b q f h. two-candidates im a b q f h;
+  beside = λ {im} c from n b.
+      played-apart im from n b (c .events) (start c)
+      ∙ sheet-beside im (c .sheet) (c .columns) (c .lines) (c .accepted) from n b;
   never-refused = λ {im} c. never-refused im (c .sheet) (c .columns) (c .lines) (c .accepted) (c .events);
 }

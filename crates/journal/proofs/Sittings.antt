@@ -1,7 +1,7 @@
 -- Demand 3, over the definitions that the public contracts cite: after a successful Open and any list of events the sheet is the journal's (A),
 -- each field's bytes are its default changed by its own finished visits (B), and two candidates with the same visits have the same bytes (C).
 use Prim.Native.Nat.{ℕ}
-use mathlib.Core.Path.{_≡_, refl, sym, ap, _∙_}
+use mathlib.Core.Path.{_≡_, refl, sym, ap, _∙_, subst}
 use mathlib.Core.Bool.{Bool, true}
 use mathlib.Core.List.{List, [], _∷_}
 use lib.ListN.{length}
@@ -16,12 +16,12 @@ use Rattle.session.specs.declared.session.Session.{Session}
 use Rattle.handset.specs.Open.{openRefusal, openAnswer, openSheet}
 use Rattle.handset.proofs.Ordering.{none-before}
 use Rattle.handset.proofs.Defaults.{defaults-there}
-use Rattle.journal.specs.Journal.{Answered, answered, allVisited, journalOf}
+use Rattle.journal.specs.Journal.{Answered, answered, allVisited, AllFinish, journalOf}
 use Rattle.journal.specs.Rules.{fieldAt, rulesOf, IsField, HoldsJournal}
 use Rattle.journal.specs.Sitting.{Sitting, begunWith, next, answerTo, played, answeredIn, visitsIn}
 use Rattle.journal.specs.Promises.{Candidate, visitsAt, bytesAt}
 use Rattle.journal.proofs.Steps.{away, final, log, Opened}
-use Rattle.journal.proofs.Whole.{bytes-are-journal, journal-is-visits}
+use Rattle.journal.proofs.Whole.{bytes-are-journal, journal-is-visits, visits-finish}
 use Rattle.journal.proofs.Executor.{viewOf, executor, executor-lawful}
 
 -- ---- Open
@@ -77,9 +77,16 @@ module _ (im sheet : List ℕ) (columns lines : ℕ) (accepted : openRefusal im 
   default-changed-by-own-visits q f =
       sheet-holds-journal .same q f ∙ journal-is-visits (rulesOf im) (answeredIn im (begunWith im sheet columns lines) es) q
 
--- C: two candidates with the same finished visits at every field, in whatever order they went from field to field
-pub two-candidates : (im : List ℕ) (a b : Candidate im) → ((q : ℕ) → IsField im q → visitsAt a q ≡ visitsAt b q) → (q : ℕ) → IsField im q → bytesAt a q ≡ bytesAt b q
-two-candidates im a b h q f =
+  -- and each of these visits is finished by its last key
+  pub own-visits-finish : (q : ℕ) → AllFinish (rulesOf im) q (bytesOf (fieldAt im q .default)) (visitsIn im (begunWith im sheet columns lines) es q)
+  unfolding visitsIn
+  own-visits-finish q =
+      subst (λ (xs : List Answered). AllFinish (rulesOf im) q (bytesOf (fieldAt im q .default)) (journalOf (rulesOf im) xs .visits q)) (log-is im (begunWith im sheet columns lines) es)
+      (visits-finish (rulesOf im) (executor im) (executor-lawful im) (begunWith im sheet columns lines) (opened-well im sheet columns lines accepted) es q)
+
+-- C: two candidates with the same finished visits at a field, in whatever order they went from field to field
+pub two-candidates : (im : List ℕ) (a b : Candidate im) (q : ℕ) → IsField im q → visitsAt a q ≡ visitsAt b q → bytesAt a q ≡ bytesAt b q
+two-candidates im a b q f h =
     default-changed-by-own-visits im (a .sheet) (a .columns) (a .lines) (a .accepted) (a .events) q f
-    ∙ ap (allVisited (rulesOf im) q (bytesOf (fieldAt im q .default))) (h q f)
+    ∙ ap (allVisited (rulesOf im) q (bytesOf (fieldAt im q .default))) h
     ∙ sym (default-changed-by-own-visits im (b .sheet) (b .columns) (b .lines) (b .accepted) (b .events) q f)

@@ -102,7 +102,7 @@ refused k s = record { refusal = k; answers = []; sheet = s; table = 10; cursor 
 abbrev gives : List ℕ → List ℕ → ℕ → ℕ → Seen
 gives xs s t c = record { refusal = 0; answers = xs; sheet = s; table = t; cursor = c }
 
--- fields stand at sheet place 1, between a 7 and a 9 that are no field's, and hold something else than their default before Open;
+-- the starred cases, in 01's order. Fields stand at sheet place 1, between a 7 and a 9 that are no field's, and hold something else than their default before Open;
 -- the option of 01's picture has the one byte of its sheet
 unfoldable pub cases : List Case
 cases =
@@ -137,12 +137,17 @@ cases =
     ∷ case image (7 ∷ []) (enter ∷ right ∷ enter ∷ []) (gives (taken ∷ taken ∷ finishedAt 24 ∷ []) (1 ∷ []) 10 0)
     -- ENTER ENTER leaves it 0
     ∷ case image (7 ∷ []) (enter ∷ enter ∷ []) (gives (taken ∷ finishedAt 24 ∷ []) (0 ∷ []) 10 0)
-    -- delay-to-top 3: the third second in a row shows the top at its first line; the submenu at 27 was entered from the second
+    -- delay-to-top 3: the third second in a row shows the top at its first line; the submenu at 27 was entered from the second line
     ∷ case returning (7 ∷ []) (down ∷ right ∷ second ∷ second ∷ second ∷ [])
     (gives (taken ∷ taken ∷ taken ∷ taken ∷ taken ∷ []) (7 ∷ []) 10 0)
-    -- not starred from here on. The picture's image with a sheet that has no room for the option: 10
-    ∷ case image [] [] (refused 10 [])
-    -- After two seconds the submenu is still shown
+    ∷ []
+
+-- and some that it does not star: a refusal 10, seconds, and a protected line
+unfoldable pub further : List Case
+further =
+    -- the picture's image with a sheet that has no room for the option: 10
+    case image [] [] (refused 10 [])
+    -- delay-to-top 3: after two seconds the submenu is still shown
     ∷ case returning (7 ∷ []) (down ∷ right ∷ second ∷ second ∷ []) (gives (taken ∷ taken ∷ taken ∷ taken ∷ []) (7 ∷ []) 27 0)
     -- a key between starts the count anew, though it flashes: no three seconds in a row, and then three
     ∷ case returning (7 ∷ []) (down ∷ right ∷ second ∷ second ∷ up ∷ second ∷ second ∷ [])
@@ -157,7 +162,12 @@ cases =
     ∷ case protecting (7 ∷ []) (right ∷ 1 ∷ left ∷ 2 ∷ []) (gives (taken ∷ taken ∷ taken ∷ flash ∷ []) (7 ∷ []) 10 0)
     ∷ []
 
--- every case comes out as listed
+-- every starred case comes out as listed
 pub starred : map runs cases ≡ map expected cases
 unfolding cases begunWith next answerTo played answeredIn told eventRefusal eventStep eventSheet sessionRefusal openRefusal openAnswer defaultsWritten openSheet _before_ _unless_ stepIn sheetIn pressed nextEditable movedOn followed followedSheet visitStep visitSheet rightTo lastDigit digitStep entryStep firstFor upStep downStep descended rightStep firstEditable enterStep browseStep later passed browseSecond shapeFits cursorHead levelFits levelsFit tablesFit among workFits visitFits digitsTo entryFits modeFits sessionFits opened closed if_then_else_ _and_ wordAt room putAt fit digitsOf numberFrom lowFirst fromLow formatOf signsOf digitsIn baseOf limitOf halfOf topOf profileOf cellOf numberOf valueFrom spans distance inDigits shownBy minus storable ofDigits cellsOf storedIn inSpan stores within legalTo legal inRange workOf started finished places countedCells stepFits widthFits goodSettings settingsFit defaultWritten begun finishedIn key.raised key.lowered key.upKey key.downKey key.leftKey key.rightKey key.onRight key.digitKey key.partAfter key.enterKey imageOf textsFrom allDigits passwordFits titleBy titleAt headBy headAt fixedBytes textCount given kindAt defaultPlace sheetPlaceAt laidOut componentBy componentAt linesFrom linesOf componentsFrom componentsOf lineFrom lineAt lineCount fine andThen padded takeTitle agrees linePlaced countLine takeLine inSheet apartFrom takeField takeComponent onComponent onComponents onHead onTitle onSubmenu onBody onLine onLines onTable walked prologCode checked refusalOf
 starred = refl
+
+-- and so does every other
+pub not-starred : map runs further ≡ map expected further
+unfolding further begunWith next answerTo played answeredIn told eventRefusal eventStep eventSheet sessionRefusal openRefusal openAnswer defaultsWritten openSheet _before_ _unless_ stepIn sheetIn pressed nextEditable movedOn followed followedSheet visitStep visitSheet rightTo lastDigit digitStep entryStep firstFor upStep downStep descended rightStep firstEditable enterStep browseStep later passed browseSecond shapeFits cursorHead levelFits levelsFit tablesFit among workFits visitFits digitsTo entryFits modeFits sessionFits opened closed if_then_else_ _and_ wordAt room putAt fit digitsOf numberFrom lowFirst fromLow formatOf signsOf digitsIn baseOf limitOf halfOf topOf profileOf cellOf numberOf valueFrom spans distance inDigits shownBy minus storable ofDigits cellsOf storedIn inSpan stores within legalTo legal inRange workOf started finished places countedCells stepFits widthFits goodSettings settingsFit defaultWritten begun finishedIn key.raised key.lowered key.upKey key.downKey key.leftKey key.rightKey key.onRight key.digitKey key.partAfter key.enterKey imageOf textsFrom allDigits passwordFits titleBy titleAt headBy headAt fixedBytes textCount given kindAt defaultPlace sheetPlaceAt laidOut componentBy componentAt linesFrom linesOf componentsFrom componentsOf lineFrom lineAt lineCount fine andThen padded takeTitle agrees linePlaced countLine takeLine inSheet apartFrom takeField takeComponent onComponent onComponents onHead onTitle onSubmenu onBody onLine onLines onTable walked prologCode checked refusalOf
+not-starred = refl

@@ -45,10 +45,17 @@ use Rattle.handset.proofs.Stepping.{stepped}
 use Rattle.handset.proofs.Defaults.{opened-fits}
 use Rattle.journal.specs.Journal.{isRefused}
 use Rattle.journal.specs.Sitting.{Sitting, begunWith, next, answerTo, played}
-use Rattle.journal.specs.Unrefused.{Sized, StillFits, NothingRefused}
-use Rattle.journal.proofs.Fitting.{Good, good-of, fits-of, Keeps, by-keeps, idle-good, up-keeps, down-keeps, left-keeps, second-keeps}
+use Rattle.journal.specs.Unrefused.{NothingRefused}
+use Rattle.journal.proofs.Fitting.{Sized, Good, good-of, fits-of, Keeps, by-keeps, idle-good, up-keeps, down-keeps, left-keeps, second-keeps}
 use Rattle.journal.proofs.FittingEntries.{right-keeps, entry-keeps}
 use Rattle.journal.proofs.FittingVisits.{enter-keeps, visit-keeps}
+
+-- what a step keeps: the session fits, for the same display
+pub record StillFits (im : List ℕ) (s z : Session) : Type 0 where
+  pub fits : sessionFits im z ≡ true
+  pub sized : Sized z
+  pub columns : z .columns ≡ s .columns
+  pub lines : z .lines ≡ s .lines
 
 -- ---- the session after an event
 

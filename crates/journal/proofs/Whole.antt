@@ -1,16 +1,16 @@
 -- The theorem over lists, once for every system whose steps are lawful. The invariant: each field's bytes are the journal's, and the keys
 -- on the trace since the ENTER that opened a visit lead from the field's bytes to the working copy.
 use Prim.Native.Nat.{ℕ, zero, suc}
-use mathlib.Core.Path.{_≡_, refl, sym, ap, _∙_}
+use mathlib.Core.Path.{_≡_, refl, sym, ap, _∙_, subst}
 use mathlib.Core.Logic.{_≢_}
 use mathlib.Core.Bool.{Bool, true, false, true≢false}
-use mathlib.Core.List.{List, [], _∷_, _++_, reverse, reverseAux}
+use mathlib.Core.List.{List, [], _∷_, _++_, reverse, reverseAux, reverse-cons}
 use borrow.Author.Tests.{eqb-true, eqb-false}
 use Rattle.laws.specs.Choice.{if_then_else_, _=?_}
 use Rattle.laws.proofs.Cases.{by-test}
 use Rattle.session.specs.declared.step.Answer.{Answer}
 use Rattle.session.specs.declared.step.Answer.the-variants as answer
-use Rattle.journal.specs.Journal.{Answered, answered, Out, on, stored, Rules, counts, ignored, keep, after, keysOf, onward, presses, leaves, visited, allVisited, Journal, update, noted, finishedKeys, withVisit, settled, fed, allFed, empty, journalOf}
+use Rattle.journal.specs.Journal.{Answered, answered, Out, on, stored, Rules, counts, ignored, keep, after, keysOf, onward, presses, leaves, visited, allVisited, Finishes, AllFinish, Journal, update, noted, finishedKeys, withVisit, settled, fed, allFed, empty, journalOf}
 use Rattle.journal.proofs.Steps.{View, away, at, System, isFinished, log, final, Kept, Fresh, none, begun, Step, skips, quiet, opens, goes, passes, ends, Lawful, Opened}
 
 -- a function that is `a` at p, and f elsewhere, is f updated
@@ -73,6 +73,19 @@ module _ {W : Type 0} (R : Rules W) where
   unfolding if_then_else_
   leads-end {p} {j} x h m o c =
       ap (leaves R p (j .bytes p)) (presses-reverse p (on (R .start p (j .bytes p))) (keysOf (after (R .opener p) (x ∷ j .trace)))) ∙ rw (c, m, h .leads, o)
+
+  -- and the visit is finished: its last key stores, and none before it
+  leads-finish : {p n : ℕ} {j : Journal} {w : W} {v : List ℕ} (x : Answered) → Leads p w n j → counts x ≡ true → R .press p w (x .event) ≡ stored v → R .opener p ≡ suc (suc n)
+      → Finishes R p (j .bytes p) (finishedKeys R p (noted x j))
+  unfolding if_then_else_
+  leads-finish {p} {n} {j} {w} x h m o c = record {
+    before = reverse (keysOf (after (suc n) (j .trace)));
+    last = x .event;
+    copy = w;
+    all = rw (c, m) (reverse-cons (x .event) (keysOf (after (suc n) (j .trace))));
+    goes = presses-reverse p (on (R .start p (j .bytes p))) (keysOf (after (suc n) (j .trace))) ∙ h .leads;
+    stores = o ∙ ap stored (sym (leads-end x h m o c));
+  }
 
 module _ {W S : Type 0} (R : Rules W) (Y : System W S) where
   -- the fields' bytes are the journal's
@@ -161,3 +174,47 @@ module _ {W : Type 0} (R : Rules W) where
   -- B: of any journal, whatever it was fed
   pub journal-is-visits : (xs : List Answered) → Own (journalOf R xs)
   journal-is-visits xs = own-all xs (empty R) (λ q. refl)
+
+  -- visits that finish, and one more that starts from the bytes that they leave
+  finish-more : (p : ℕ) (b : List ℕ) (vs : List (List ℕ)) (v : List ℕ) → AllFinish R p b vs → Finishes R p (allVisited R p b vs) v → AllFinish R p b (vs ++ (v ∷ []))
+  finish-more p b [] v h f = (f, tt)
+  finish-more p b (u ∷ vs) v h f = (h .0, finish-more p (visited R p b u) vs v (h .1) f)
+
+  -- each visit in the journal is finished
+  record Finished (j : Journal) : Type 0 where
+    own : Own j
+    finish : (q : ℕ) → AllFinish R q (R .default q) (j .visits q)
+
+  finished-visit : (p : ℕ) (ks : List ℕ) (j : Journal) → Finished j → Finishes R p (j .bytes p) ks → Finished (withVisit R p ks j)
+  unfolding if_then_else_
+  finished-visit p ks j h f = record { own = own-visit p ks j (h .own); finish = λ q. by-test (q =? p) (here q) (λ e. rw e (h .finish q)) }
+    where
+      here : (q : ℕ) → q =? p ≡ true → AllFinish R q (R .default q) (withVisit R p ks j .visits q)
+      here q e =
+          rw e
+          (subst (λ (z : ℕ). AllFinish R z (R .default z) (j .visits p ++ (ks ∷ []))) (sym (eqb-true q p e))
+          (finish-more p (R .default p) (j .visits p) ks (h .finish p) (subst (λ (b : List ℕ). Finishes R p b ks) (h .own p) f)))
+
+module _ {W S : Type 0} (R : Rules W) (Y : System W S) (L : Lawful R Y) where
+  step-finished : (s : S) (e : ℕ) (j : Journal) → Inv R Y s j → Finished R j → Step R Y s e (Y .next s e) (Y .answer s e)
+      → Finished R (fed R j (answered e (Y .answer s e)))
+  step-finished s e j inv h (skips i v k) = rw (fed-skip R j (answered e (Y .answer s e)) i) h
+  step-finished s e j inv h (quiet i f v k) = rw (fed-plain R j (answered e (Y .answer s e)) i f) (record { own = h .own; finish = h .finish })
+  step-finished s e j inv h (opens i f m g k) = rw (fed-plain R j (answered e (Y .answer s e)) i f) (record { own = h .own; finish = h .finish })
+  step-finished s e j inv h (goes i f m p w w′ v v′ o c k) = rw (fed-plain R j (answered e (Y .answer s e)) i f) (record { own = h .own; finish = h .finish })
+  step-finished s e j inv h (passes i f m p w w′ v v′ o c k) = rw (fed-plain R j (answered e (Y .answer s e)) i f) (record { own = h .own; finish = h .finish })
+  step-finished s e j inv h (ends i m p w y a v o c r k f) =
+      let n = rw v at (inv .open′) in
+      rw (fed-finished R j (answered e (Y .answer s e)) p i a)
+      (finished-visit R p (finishedKeys R p (noted (answered e (Y .answer s e)) j)) (noted (answered e (Y .answer s e)) j) (record { own = h .own; finish = h .finish })
+      (leads-finish R (answered e (Y .answer s e)) (n .1) m o c))
+
+  finished-all : (es : List ℕ) (s : S) (j : Journal) → Inv R Y s j → Finished R j → Finished R (allFed R j (log Y s es))
+  finished-all [] s j inv h = h
+  finished-all (e ∷ es) s j inv h =
+      finished-all es (Y .next s e) (fed R j (answered e (Y .answer s e))) (step-inv R Y L s e j inv (L .step s e)) (step-finished s e j inv h (L .step s e))
+
+  -- every visit that the journal finds was finished by its last key
+  pub visits-finish : (s : S) → Opened R Y s → (es : List ℕ) (q : ℕ) → AllFinish R q (R .default q) (journalOf R (log Y s es) .visits q)
+  visits-finish s o es q =
+      finished-all es s (empty R) (record { same = o .defaults; open′ = rw (o .closed) tt }) (record { own = λ p. refl; finish = λ p. tt }) .finish q

@@ -1,14 +1,13 @@
 -- The coordinator's three demands, one record each, in order, over the definitions that the public contracts cite: the contract of each call
 -- equates its answer, and every byte that it was lent to write, with them. `proofs/Promises` proves all three.
-use Prim.Native.Nat.{ℕ, _+_, _*_, _≤_, _<_}
+use Prim.Native.Nat.{ℕ, _<_}
 use mathlib.Core.Path.{_≡_}
-use mathlib.Core.Logic.{_⊎_}
 use mathlib.Core.Bool.{true, false}
 use mathlib.Core.List.{List, [], _∷_, _++_, List·Memᴰ}
 use lib.ListN.{length, getD}
 use Rattle.laws.specs.Parts.{partAt}
 use Rattle.field.specs.Values.{bytesOf}
-use Rattle.field.specs.Sheet.{sizeOf, ownBytes}
+use Rattle.field.specs.Sheet.{ownBytes}
 use Rattle.field.specs.declared.record.Field.{Field}
 use Rattle.cmf.specs.Grammar.{WellFormed}
 use Rattle.walk.specs.Check.{refusalOf}
@@ -21,9 +20,9 @@ use Rattle.picture.specs.Cursor.{editCursor}
 use Rattle.handset.specs.Open.{openRefusal, openAnswer, openSheet}
 use Rattle.handset.specs.Event.{eventRefusal, refusedWith, eventStep, eventSheet}
 use Rattle.handset.specs.Draw.{drawRefusal, drawCursor, drawnPicture}
-use Rattle.handset.specs.OptionText.{textRefusal, optionText}
-use Rattle.journal.specs.Journal.{allVisited, journalOf}
-use Rattle.journal.specs.Rules.{fieldAt, rulesOf, IsField, HoldsJournal}
+use Rattle.handset.specs.OptionText.{ItemIs, textRefusal, optionText}
+use Rattle.journal.specs.Journal.{allVisited, AllFinish, journalOf}
+use Rattle.journal.specs.Rules.{fieldAt, rulesOf, IsField, Beside, HoldsJournal}
 use Rattle.journal.specs.Sitting.{Sitting, begunWith, next, answerTo, played, answeredIn, visitsIn}
 use Rattle.journal.specs.Protected.{OpenedByDigits, Unlocked}
 use Rattle.journal.specs.Unrefused.{NothingRefused}
@@ -57,8 +56,10 @@ pub record Demand2 : Type 0 where
   pub defaults : (im sheet : List ℕ) (columns lines : ℕ) → openRefusal im (length sheet) columns lines ≡ 0
       → (q : ℕ) → IsField im q → ownBytes (fieldAt im q) (openSheet im sheet columns lines) ≡ bytesOf (fieldAt im q .default)
   pub nothing-else : (im sheet : List ℕ) (columns lines : ℕ) → openRefusal im (length sheet) columns lines ≡ 0
-      → (from n : ℕ) → ((q : ℕ) → IsField im q → (from + n ≤ fieldAt im q .sheet .0) ⊎ (fieldAt im q .sheet .0 + sizeOf (fieldAt im q) ≤ from))
-      → partAt from n (openSheet im sheet columns lines) ≡ partAt from n sheet
+      → (from n : ℕ) → Beside im from n → partAt from n (openSheet im sheet columns lines) ≡ partAt from n sheet
+  -- fields are named by their image places, and none is missed
+  pub every-field : (im : List ℕ) (sheet : ℕ) (w : WellFormed im sheet) (f : Field) → List·Memᴰ f (w .fields)
+      → (fieldAt im (f .image .0) ≡ f) × IsField im (f .image .0)
   -- each event is the step that 01's rules give
   pub steps : (im sheet : List ℕ) (s : Session) (e : ℕ) → eventRefusal im (length sheet) s e ≡ 0 → eventStep im sheet s e ≡ stepOf im sheet s e
   pub stores : (im sheet : List ℕ) (s : Session) (e : ℕ) → eventRefusal im (length sheet) s e ≡ 0 → eventSheet im sheet s e ≡ sheetOf im sheet s e
@@ -66,6 +67,8 @@ pub record Demand2 : Type 0 where
   pub draws : (im sheet : List ℕ) (s : Session) (picture : List ℕ) → drawRefusal im (length sheet) s (length picture) ≡ 0
       → drawnPicture im sheet s picture ≡ pictureOf im sheet s
   pub points : (im : List ℕ) (sheet : ℕ) (s : Session) (n : ℕ) → drawRefusal im sheet s n ≡ 0 → drawCursor im sheet s n ≡ editCursor im s
+  -- an option text is the item's own bytes, all of them in the image
+  pub texts : (im : List ℕ) (sheet place item : ℕ) → textRefusal im sheet place item ≡ 0 → ItemIs im place item (optionText im sheet place item)
   -- a protected line opens its submenu only after its own digits
   pub protected : (im sheet : List ℕ) (columns lines : ℕ) (es : List ℕ) (e : ℕ) → let t = played im (begunWith im sheet columns lines) es in
       cursorHead im (t .session .here) .protected ≡ true → t .session .outer < next im t e .session .outer
@@ -75,7 +78,7 @@ pub record Demand2 : Type 0 where
 
 -- ---- demand 3: whole sittings
 
--- a candidate: a sheet, a display and a list of events of his own, with which Open accepts the image
+-- a candidate: a sheet, a display and a list of events, with which Open accepts the image
 pub record Candidate (im : List ℕ) : Type 0 where
   pub sheet : List ℕ
   pub columns : ℕ
@@ -90,7 +93,7 @@ module _ {im : List ℕ} (c : Candidate im) where
   abbrev pub end : Sitting
   end = played im start (c .events)
 
-  -- his finished visits at a field, and the field's bytes at the end
+  -- the finished visits at a field, and the field's bytes at the end
   abbrev pub visitsAt : ℕ → List (List ℕ)
   visitsAt q = visitsIn im start (c .events) q
 
@@ -102,7 +105,11 @@ pub record Demand3 : Type 0 where
   pub journal : {im : List ℕ} (c : Candidate im) → HoldsJournal im (end c .sheet) (journalOf (rulesOf im) (answeredIn im (start c) (c .events)))
   -- so they are its default changed by its own finished visits one after another, whatever was done elsewhere between them
   pub visits : {im : List ℕ} (c : Candidate im) (q : ℕ) → IsField im q → bytesAt c q ≡ allVisited (rulesOf im) q (bytesOf (fieldAt im q .default)) (visitsAt c q)
-  -- two candidates with the same finished visits at each field have the same bytes at each field
-  pub candidates : {im : List ℕ} (a b : Candidate im) → ((q : ℕ) → IsField im q → visitsAt a q ≡ visitsAt b q) → (q : ℕ) → IsField im q → bytesAt a q ≡ bytesAt b q
-  -- and nothing is refused on the way
+  -- where a visit is what its name says: its last key stores, and none before it
+  pub finishes : {im : List ℕ} (c : Candidate im) (q : ℕ) → AllFinish (rulesOf im) q (bytesOf (fieldAt im q .default)) (visitsAt c q)
+  -- two candidates with the same finished visits at a field have the same bytes there, in whatever order they went and whatever they did elsewhere
+  pub candidates : {im : List ℕ} (a b : Candidate im) (q : ℕ) → IsField im q → visitsAt a q ≡ visitsAt b q → bytesAt a q ≡ bytesAt b q
+  -- bytes of no field are as they were before Open
+  pub beside : {im : List ℕ} (c : Candidate im) (from n : ℕ) → Beside im from n → partAt from n (end c .sheet) ≡ partAt from n (c .sheet)
+  -- and no event 0 to 16, and no Draw of the right size, is refused on the way
   pub never-refused : {im : List ℕ} (c : Candidate im) → NothingRefused im (c .columns) (c .lines) (end c)

@@ -1,6 +1,7 @@
 -- The visit rules of an image (01, Fields and Keys), as the journal is fed them: those of crate field, at the field that is read at a place.
-use Prim.Native.Nat.{ℕ}
+use Prim.Native.Nat.{ℕ, _+_, _≤_}
 use mathlib.Core.Path.{_≡_}
+use mathlib.Core.Logic.{_⊎_}
 use mathlib.Core.List.{List, List·Memᴰ}
 use Rattle.laws.specs.Choice.{if_then_else_}
 use Rattle.field.specs.Values.{bytesOf, valueOf}
@@ -65,6 +66,10 @@ pub record IsField (im : List ℕ) (q : ℕ) : Type 0 where
   pub sheet : ℕ
   pub formed : WellFormed im sheet
   pub known : List·Memᴰ (fieldAt im q) (formed .fields)
+
+-- the n bytes of a sheet from a place on lie beside every field
+pub record Beside (im : List ℕ) (from n : ℕ) : Type 0 where
+  pub beside : (q : ℕ) → IsField im q → (from + n ≤ fieldAt im q .sheet .0) ⊎ (fieldAt im q .sheet .0 + sizeOf (fieldAt im q) ≤ from)
 
 -- each field's bytes in the sheet are the journal's
 pub record HoldsJournal (im sheet : List ℕ) (j : Journal) : Type 0 where

@@ -1,4 +1,5 @@
--- Nothing is refused in a sitting: what is promised of the session and the sheet that Open and the events after it lead to.
+-- In a sitting no event 0 to 16 is refused, and no Draw of the right size: what is promised of the session and the sheet that Open and the events
+-- after it lead to.
 use Prim.Native.Nat.{ℕ, _*_, _≤_, _<_}
 use mathlib.Core.Path.{_≡_}
 use mathlib.Core.Bool.{true, false}
@@ -11,19 +12,6 @@ use Rattle.handset.specs.Event.{eventRefusal}
 use Rattle.handset.specs.Draw.{drawRefusal}
 use Rattle.journal.specs.Journal.{isRefused}
 use Rattle.journal.specs.Sitting.{Sitting, answerTo}
-
--- the arrays of a session have the lengths that their types say; as lists they could have any
-pub record Sized (s : Session) : Type 0 where
-  pub above : length (s .above) ≡ 7
-  pub typed : length (s .typed) ≡ 8
-  pub cells : length (s .work .cells) ≡ 32
-
--- what a step keeps: the session fits, for the same display
-pub record StillFits (im : List ℕ) (s z : Session) : Type 0 where
-  pub fits : sessionFits im z ≡ true
-  pub sized : Sized z
-  pub columns : z .columns ≡ s .columns
-  pub lines : z .lines ≡ s .lines
 
 -- what is promised of a sitting on a display of this shape
 pub record NothingRefused (im : List ℕ) (c l : ℕ) (t : Sitting) : Type 0 where
