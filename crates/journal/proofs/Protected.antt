@@ -63,8 +63,8 @@ module _ (im : List ℕ) where
     digits = u .digits;
     shown = u .shown;
     stays =
-      stays-more k (played im t (u .before)) (u .rest) e (u .stays)
-      (rw (← played-join t (u .before) (u .rest ++ (e ∷ [])), ← append-assoc (u .before) (u .rest) (e ∷ []), ← u .all) h);
+        stays-more k (played im t (u .before)) (u .rest) e (u .stays)
+        (rw (← played-join t (u .before) (u .rest ++ (e ∷ [])), ← append-assoc (u .before) (u .rest) (e ∷ []), ← u .all) h);
   }
 
 -- what holds after the events es, which led from t to the session s, with the keys ks typed since the last RIGHT

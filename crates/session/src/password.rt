@@ -45,7 +45,13 @@ fn with_digit(typed: [u8; Image::MAX_PASSWORD], n: u8, d: u8) -> [u8; Image::MAX
 
 impl Session {
     // All of the digits are typed.
-    fn last_digit(self, image: &[u8], h: Head, typed: [u8; Image::MAX_PASSWORD], count: usize) -> Stepped
+    fn last_digit(
+        self,
+        image: &[u8],
+        h: Head,
+        typed: [u8; Image::MAX_PASSWORD],
+        count: usize,
+    ) -> Stepped
         requires { ⌜ count ≤ 256 ⌝ }
         ensures { λ r. ⌜ r ≡ lastDigit (now (image .entry)) self h typed count ⌝ }
     {
