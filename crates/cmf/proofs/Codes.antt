@@ -36,20 +36,20 @@ passes test (suc n) e c h =
     by-test (c =? n) (λ q. rw (eqb-true c n q) (and-l _ _ e)) (λ q. passes test n (and-r (test n) _ e) c (omega (arith, eqb-false c n q)))
 
 -- 7.5.1 to 7.5.11: an integer's bytes are its default's and six more
-integer-bytes : (c e : ℕ) → c ≤ 0x0a → fixedBytes c e ≡ 6 + profileOf (Integer (formatOf c)) .bytes
+pub integer-bytes : (c e : ℕ) → c ≤ 0x0a → fixedBytes c e ≡ 6 + profileOf (Integer (formatOf c)) .bytes
 unfolding fixedBytes profileOf formatOf _and_ if_then_else_
 integer-bytes c e h = eqb-true _ _ (passes (λ (n : ℕ). fixedBytes n e =? 6 + profileOf (Integer (formatOf n)) .bytes) 11 refl c (omega arith))
 
 module _ (im : List ℕ) where
   -- the field of a code that is one
-  abbrev fieldsBy : ℕ → ℕ → List Field
+  abbrev pub fieldsBy : ℕ → ℕ → List Field
   fieldsBy at c = if (if c =? 0x15 then false else true) then fieldBy im at c ∷ [] else []
 
   -- the field of an integer's code
-  abbrev integerBy : ℕ → ℕ → Field
+  abbrev pub integerBy : ℕ → ℕ → Field
   integerBy at c = fieldAt im at (Integer (formatOf c)) (at + 6)
 
-  integer-field : (at c : ℕ) → c ≤ 0x0a → fieldBy im at c ≡ integerBy at c
+  pub integer-field : (at c : ℕ) → c ≤ 0x0a → fieldBy im at c ≡ integerBy at c
   unfolding kindAt defaultPlace sheetPlaceAt if_then_else_
   integer-field at c h =
       simp (le-leb c 0x0a h, lt-ltb c 0x15 (omega arith), ne-eqb c 0x0d (λ e. omega arith), ne-eqb c 0x13 (λ e. omega arith), ne-eqb c 0x14 (λ e. omega arith))

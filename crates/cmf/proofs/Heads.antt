@@ -45,14 +45,14 @@ module _ (im : List ℕ) where
       (λ s. pass-digits n (at + 1) (and-r _ _ e) x (omega (arith, eqb-false at x s)) (omega arith))
 
   -- a password of the grammar passes the test, and one that passes is of the grammar
-  digits-fit : (at : ℕ) → Digits im at → passwordFits im at ≡ true
+  pub digits-fit : (at : ℕ) → Digits im at → passwordFits im at ≡ true
   unfolding passwordFits
   digits-fit at d =
       and-i (le-leb 1 _ (d .some))
       (and-i (le-leb _ longestPassword (d .few))
       (digits-pass (byteAt im at) (at + 1) (λ x l u. record { least = d .least x (omega arith) (omega arith); most = d .most x (omega arith) (omega arith) })))
 
-  fit-digits : (at : ℕ) → passwordFits im at ≡ true → Digits im at
+  pub fit-digits : (at : ℕ) → passwordFits im at ≡ true → Digits im at
   unfolding passwordFits
   fit-digits at e =
       let f = and-r _ _ e in
@@ -88,7 +88,7 @@ module _ (im : List ℕ) where
     word : OneText p end
 
   -- how many passwords a tag has
-  one-password : (p : ℕ) → hasPassword im p ≤ hasSubmenu im p → passwords (byteAt im p) ≡ hasPassword im p
+  pub one-password : (p : ℕ) → hasPassword im p ≤ hasSubmenu im p → passwords (byteAt im p) ≡ hasPassword im p
   one-password p l = both-bits (hasSubmenu im p) (hasPassword im p) (omega arith) l
 
   -- a head laid out so is read

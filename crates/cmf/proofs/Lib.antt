@@ -9,3 +9,5 @@ pub mod Parts
 pub mod Codes
 pub mod Agreeing
 pub mod Onward
+pub mod Forming
+pub mod Rows

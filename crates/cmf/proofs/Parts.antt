@@ -28,7 +28,7 @@ module _ (im : List ℕ) where
     pub settings : settingsFit (kindAt im at c) (fieldBy im at c .default) ≡ true
 
   -- every component has a byte at least
-  some-byte : (c e : ℕ) → 0 < fixedBytes c e
+  pub some-byte : (c e : ℕ) → 0 < fixedBytes c e
   unfolding fixedBytes
   some-byte c e = search (if-min, lit≤) depth 40
 

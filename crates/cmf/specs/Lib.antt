@@ -3,3 +3,4 @@ pub mod Layouts
 pub mod Grammar
 pub mod Readers
 pub mod Places
+pub mod Forms

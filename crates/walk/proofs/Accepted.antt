@@ -19,7 +19,7 @@ use Rattle.walk.proofs.Tables.{table-goes, table-read}
 
 module _ (im : List ℕ) where
   -- the prolog
-  prolog-is : Prolog im → prologCode im ≡ 0
+  pub prolog-is : Prolog im → prologCode im ≡ 0
   unfolding prologCode
   prolog-is p =
       if-ge (length im) prologBytes _ _ (p .least)
@@ -28,7 +28,7 @@ module _ (im : List ℕ) where
       ∙ if-true _ _ (and-i (eq-eqb _ 0 (p .major)) (eq-eqb _ 4 (p .minor)))
       ∙ if-true _ _ (and-i (eq-eqb _ 0xff (p .mark-low)) (eq-eqb _ 0xfe (p .mark-high)))
 
-  prolog-read : prologCode im ≡ 0 → Prolog im
+  pub prolog-read : prologCode im ≡ 0 → Prolog im
   unfolding prologCode
   prolog-read =
       if-ind P (length im <? prologBytes) (λ _ z. absurd (omega arith))

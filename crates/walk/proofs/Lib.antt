@@ -11,3 +11,12 @@ pub mod Reach
 pub mod Turns
 pub mod CodeSteps
 pub mod Acceptance
+pub mod Judging
+pub mod PartJudging
+pub mod Answers
+pub mod Falls
+pub mod Finds
+pub mod PrologJudging
+pub mod Faulty
+pub mod Ranges
+pub mod FaultCases

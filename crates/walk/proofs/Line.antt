@@ -82,7 +82,7 @@ module _ (im : List ℕ) (A : Agree im) (sheet most : ℕ) where
     plain-goes p s e = if-false _ _ e
 
     -- head and components of the grammar are taken
-    body-goes :
+    pub body-goes :
         {n before p mid end : ℕ} {fs : List Field} (at lines : ℕ) (es : List Entry) → Head im n before p mid → Components im mid end fs →
         n < mostLinesOfTable → Aligned im 1 at p → lines < mostLines → Takes sheet most es fs →
         onLine im sheet most submenu n before p (stood at lines es) ≡ onSubmenu im sheet most submenu (headAt im p) (stood end (lines + 1) (put es fs))

@@ -59,7 +59,7 @@ module _ (im : List ℕ) (A : Agree im) where
 
 module _ (im : List ℕ) (A : Agree im) (sheet most : ℕ) where
   -- one component, and then the others
-  walk-on :
+  pub walk-on :
       (c : ℕ) (cs : List ℕ) (s : State) (at lines : ℕ) (es : List Entry) → onComponent im sheet most c s ≡ stood at lines es →
       onComponents im sheet most (c ∷ cs) s ≡ onComponents im sheet most cs (stood at lines es)
   unfolding onComponents

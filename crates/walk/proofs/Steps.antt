@@ -23,11 +23,11 @@ use Rattle.walk.proofs.Stood.{stood, put, code-refused, is-refused}
 use Rattle.walk.proofs.Takes.{Takes}
 
 -- a place that follows another at once or behind one zero byte
-padded-is : (im : List ℕ) (at p : ℕ) → ((at ≡ p → ⊥) → byteAt im at ≡ 0) → padded im at p ≡ true
+pub padded-is : (im : List ℕ) (at p : ℕ) → ((at ≡ p → ⊥) → byteAt im at ≡ 0) → padded im at p ≡ true
 unfolding padded
 padded-is im at p h = if-ind (λ (b : Bool). b ≡ true) (at =? p) (λ _. refl) (λ e. eq-eqb _ 0 (h (eqb-false at p e)))
 
-padded-reads : (im : List ℕ) (at p : ℕ) → padded im at p ≡ true → (at ≡ p → ⊥) → byteAt im at ≡ 0
+pub padded-reads : (im : List ℕ) (at p : ℕ) → padded im at p ≡ true → (at ≡ p → ⊥) → byteAt im at ≡ 0
 unfolding padded
 padded-reads im at p =
     if-ind (λ (b : Bool). b ≡ true → (at ≡ p → ⊥) → byteAt im at ≡ 0) (at =? p)

@@ -48,7 +48,7 @@ came-by {lines = lines} e l f c = record { end = c .end; is = e ∙ c .is ∙ rw
 module _ (im : List ℕ) (A : Agree im) (sheet most : ℕ) where
   module _ (submenu : ℕ → State → State) (Sub : ℕ → List Field → ℕ → Type 0) where
     -- one line, and then the others
-    walk-on :
+    pub walk-on :
         (n before p : ℕ) (ps : List ℕ) (s : State) (at lines : ℕ) (es : List Entry) → onLine im sheet most submenu n before p s ≡ stood at lines es →
         onLines im sheet most submenu n before (p ∷ ps) s ≡ onLines im sheet most submenu (n + 1) p ps (stood at lines es)
     unfolding onLines
