@@ -11,6 +11,7 @@ use Rattle.field.specs.Sheet.{sizeOf}
 use Rattle.field.specs.declared.record.Field.{Field}
 use Rattle.cmf.specs.Grammar.{WellFormed}
 use Rattle.walk.proofs.Acceptance.{accepted-exactly-when-well-formed}
+use Rattle.walk.proofs.Faulty.{refused-exactly-when}
 use Rattle.walk.proofs.Fields.{every-in}
 use Rattle.session.proofs.Closed.{closed-never-fits}
 use Rattle.handset.specs.Open.{openRefusal, openAnswer, openSheet}
@@ -30,6 +31,7 @@ use Rattle.journal.proofs.Unrefused.{never-refused}
 pub demand-1 : Demand1
 unfolding openAnswer openSheet drawCursor drawnPicture optionText
 demand-1 = record {
+  number = refused-exactly-when;
   open-closes = λ im sheet columns lines h. if-ne (openRefusal im sheet columns lines) 0 _ _ h;
   open-keeps = λ im sheet columns lines h. if-ne (openRefusal im (length sheet) columns lines) 0 _ _ h;
   closed-unfit = closed-never-fits;

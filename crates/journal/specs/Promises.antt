@@ -11,6 +11,7 @@ use Rattle.field.specs.Sheet.{ownBytes}
 use Rattle.field.specs.declared.record.Field.{Field}
 use Rattle.cmf.specs.Grammar.{WellFormed}
 use Rattle.walk.specs.Check.{refusalOf}
+use Rattle.walk.specs.Faults.{Refused}
 use Rattle.session.specs.Session.{noLevel, opened, closed}
 use Rattle.session.specs.Fits.{cursorHead, sessionFits}
 use Rattle.session.specs.Event.{stepOf, sheetOf}
@@ -30,6 +31,9 @@ use Rattle.journal.specs.Unrefused.{NothingRefused}
 -- ---- demand 1: refusals. That every call ends with an answer, whatever it is given, is that its function has a contract and asks for nothing
 
 pub record Demand1 : Type 0 where
+  -- a bad image gets the number that 01's table fixes for it: the definition of `Refused` shares no step with the check
+  pub number : (im : List ℕ) (sheet k : ℕ)
+      → (((refusalOf im sheet ≡ k) × (k ≡ 0 → ⊥)) → Refused im sheet k) × (Refused im sheet k → (refusalOf im sheet ≡ k) × (k ≡ 0 → ⊥))
   -- a refused Open gives a closed session, and leaves the sheet
   pub open-closes : (im : List ℕ) (sheet columns lines : ℕ) → (openRefusal im sheet columns lines ≡ 0 → ⊥) → openAnswer im sheet columns lines .session ≡ closed
   pub open-keeps : (im sheet : List ℕ) (columns lines : ℕ) → (openRefusal im (length sheet) columns lines ≡ 0 → ⊥) → openSheet im sheet columns lines ≡ sheet
