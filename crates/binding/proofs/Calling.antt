@@ -1,0 +1,248 @@
+-- The calls over bytes, one case at a time, over variables: what the call of `handset` answered, and what its contract then says.
+use Prim.Native.Nat.{ℕ, zero, suc, _+_, _*_, _≤_, _<_}
+use mathlib.Core.Path.{_≡_, refl, sym, ap, _∙_}
+use mathlib.Core.Bool.{true, false, false≢true}
+use mathlib.Core.List.{List}
+use native.Mathlib.Omega.{arith}
+use native.Mathlib.Decide.{ℕ-discrete}
+use lib.ListN.{length, length-take}
+use borrow.Author.Tests.{eq-eqb, ne-eqb, eqb-true}
+use Rattle.laws.specs.Choice.{_=?_, _<?_}
+use Rattle.laws.specs.Bytes.{byteAt}
+use Rattle.laws.specs.Overwrite.{over}
+use Rattle.laws.proofs.Cases.{if-ind, if-eq, if-ne}
+use Rattle.laws.proofs.Overwriting.{over-all}
+use Rattle.walk.specs.Check.{refusalOf}
+use Rattle.cmf.specs.Readers.{itemFrom, itemPlace}
+use Rattle.session.specs.Session.{closed}
+use Rattle.session.specs.Fits.{shapeFits, sessionFits}
+use Rattle.session.specs.Steps.{told}
+use Rattle.session.specs.declared.session.Session.{Session}
+use Rattle.session.specs.declared.step.Stepped.{Stepped}
+use Rattle.session.proofs.Closed.{closed-never-fits}
+use Rattle.handset.specs.Refusals.{_before_, _unless_, sessionRefusal}
+use Rattle.handset.specs.Open.{openRefusal, openAnswer, openSheet}
+use Rattle.handset.specs.Event.{eventRefusal, eventStep, eventTold, eventSheet, refusedWith}
+use Rattle.handset.specs.Draw.{drawRefusal, drawCursor, drawnPicture}
+use Rattle.handset.specs.OptionText.{textRefusal, optionText}
+use Rattle.handset.specs.declared.open.Opened.{Opened}
+use Rattle.handset.proofs.Items.{item-is}
+use Rattle.handset.proofs.Ordering.{first-given, next-given, holding, failing, none-before, Granted, session-granted}
+use Rattle.handset.proofs.Stepping.{event-granted}
+use Rattle.binding.specs.Layout.{sessionBytes, sessionIn, sessionFrom}
+use Rattle.binding.specs.Answers.{refusedBy, isRefused, placeOf, cursorNumber}
+use Rattle.binding.specs.Calls.{openNumber, openedSheet, openedBytes, openedSession, eventNumber, eventBytes, drawNumber, textNumber}
+use Rattle.binding.proofs.Answering.{Plain, step-plain, short, cursor-plain}
+
+-- ---- a session written to a buffer of its length
+
+pub written : (bs t : List ℕ) (s : Session) → length bs ≡ 230 → length (sessionBytes s) ≡ 230 → t ≡ over bs 0 (sessionBytes s) → t ≡ sessionBytes s
+written bs t s h k e = e ∙ over-all bs (sessionBytes s) (k ∙ sym h)
+
+-- ---- Open
+
+before-none : (a : ℕ) → a before 0 ≡ a
+unfolding _before_
+before-none a = if-ind (λ (k : ℕ). k ≡ a) (a =? 0) (λ e. sym (eqb-true a 0 e)) (λ _. refl)
+
+module _ (im : List ℕ) (sheet columns lines : ℕ) where
+  -- a buffer of another length: 1 first
+  pub unsized-shape : shapeFits columns lines ≡ false → 1 ≡ openRefusal im sheet columns lines before 12
+  unfolding openRefusal
+  unsized-shape h =
+      sym (rw (failing 1 (shapeFits columns lines) h, first-given 1 (refusalOf im sheet) (λ z. omega arith)) (first-given 1 12 (λ z. omega arith)))
+
+  -- then 2 to 11, then 12: the closed session never fits
+  pub unsized-image : (k : ℕ) → shapeFits columns lines ≡ true → k ≡ sessionRefusal im sheet closed → k ≡ openRefusal im sheet columns lines before 12
+  unfolding openRefusal sessionRefusal
+  unsized-image k h e =
+      let f : 12 unless sessionFits im closed ≡ 12 = failing 12 _ (closed-never-fits im) in
+      e ∙ rw (f, holding 1 (shapeFits columns lines) h, next-given 0 (refusalOf im sheet) refl)
+
+  pub open-unsized : (n k : ℕ) → (n ≡ 230 → ⊥) → k ≡ openRefusal im sheet columns lines before 12 → 16777216 + k ≡ openNumber im sheet columns lines n
+  unfolding openNumber refusedBy
+  open-unsized n k h e =
+      let f : 12 unless (n =? 230) ≡ 12 = failing 12 _ (ne-eqb n 230 h) in
+      let z : k ≡ 0 → ⊥ = λ z. omega (arith, none-before (openRefusal im sheet columns lines) 12 (sym e ∙ z) .1) in
+      sym (rw (f, ← e) (if-ne k 0 _ _ z))
+
+  pub open-sized : (n k r : ℕ) → n ≡ 230 → k ≡ openRefusal im sheet columns lines → r ≡ refusedBy k → r ≡ openNumber im sheet columns lines n
+  unfolding openNumber
+  open-sized n k r h e f =
+      let g : 12 unless (n =? 230) ≡ 0 = holding 12 _ (eq-eqb n 230 h) in
+      f ∙ rw (g, before-none (openRefusal im sheet columns lines), e)
+
+  pub refusal-of : (o : Opened) → o ≡ openAnswer im sheet columns lines → o .refusal ≡ openRefusal im sheet columns lines
+  unfolding openAnswer
+  refusal-of o e = ap (λ (x : Opened). x .refusal) e
+
+  pub bytes-kept : (bs : List ℕ) → (length bs ≡ 230 → ⊥) → bs ≡ openedBytes im sheet columns lines bs
+  unfolding openedBytes
+  bytes-kept bs h = sym (if-ne _ 230 _ _ h)
+
+  pub bytes-opened : (bs t : List ℕ) (o : Opened) → length bs ≡ 230 → length (sessionBytes (o .session)) ≡ 230 → o ≡ openAnswer im sheet columns lines
+      → t ≡ over bs 0 (sessionBytes (o .session)) → t ≡ openedBytes im sheet columns lines bs
+  unfolding openedBytes
+  bytes-opened bs t o h k e f = written bs t (o .session) h k f ∙ ap (λ (x : Opened). sessionBytes (x .session)) e ∙ sym (if-eq _ 230 _ _ h)
+
+  pub session-closed : (bs : List ℕ) → (length bs ≡ 230 → ⊥) → sessionFrom bs ≡ openedSession im sheet columns lines (length bs)
+  unfolding sessionFrom openedSession
+  session-closed bs h = if-ne _ 230 _ _ h ∙ sym (if-ne _ 230 _ _ h)
+
+  pub session-opened : (bs t : List ℕ) (o : Opened) → length bs ≡ 230 → length (sessionBytes (o .session)) ≡ 230 → o ≡ openAnswer im sheet columns lines
+      → t ≡ over bs 0 (sessionBytes (o .session)) → sessionFrom (sessionBytes (o .session)) ≡ o .session
+      → sessionFrom t ≡ openedSession im sheet columns lines (length bs)
+  unfolding openedSession
+  session-opened bs t o h k e f b =
+      ap (λ (l : List ℕ). sessionFrom l) (written bs t (o .session) h k f) ∙ b ∙ ap (λ (x : Opened). x .session) e ∙ sym (if-eq _ 230 _ _ h)
+
+module _ (im sheet : List ℕ) (columns lines n : ℕ) where
+  pub sheet-kept : (n ≡ 230 → ⊥) → sheet ≡ openedSheet im sheet columns lines n
+  unfolding openedSheet
+  sheet-kept h = sym (if-ne n 230 _ _ h)
+
+  pub sheet-opened : (t : List ℕ) → n ≡ 230 → t ≡ openSheet im sheet columns lines → t ≡ openedSheet im sheet columns lines n
+  unfolding openedSheet
+  sheet-opened t h e = e ∙ sym (if-eq n 230 _ _ h)
+
+-- ---- Event
+
+module _ (im sheet : List ℕ) (s : Session) (e : ℕ) (r : Stepped) (q : r ≡ eventStep im sheet s e) where
+  -- what the answer says of the refusal
+  pub record Told : Type 0 where
+    pub refused : isRefused (r .answer) ≡ true → eventRefusal im (length sheet) s e ≡ 0 → ⊥
+    pub given : isRefused (r .answer) ≡ false → eventRefusal im (length sheet) s e ≡ 0
+    pub place : placeOf (r .answer) < 65536
+
+  answer-given : eventRefusal im (length sheet) s e ≡ 0 → Plain 32768 r
+  unfolding eventStep
+  answer-given z = rw (q, if-eq _ 0 _ _ z) (step-plain im sheet s e (event-granted im (length sheet) s e z .granted))
+
+  answer-refused : (eventRefusal im (length sheet) s e ≡ 0 → ⊥) → r ≡ refusedWith s (eventRefusal im (length sheet) s e)
+  unfolding eventStep
+  answer-refused h = q ∙ if-ne _ 0 _ _ h
+
+  pub answer-told : Told
+  unfolding placeOf isRefused
+  answer-told = go (ℕ-discrete (eventRefusal im (length sheet) s e) 0)
+    where
+      go : Dec (eventRefusal im (length sheet) s e ≡ 0) → Told
+      go (yes z) =
+          let p = answer-given z in
+          record { refused = λ h _. false≢true (sym (p .given) ∙ h); given = λ _. z; place = omega (arith, p .near) }
+      go (no h) =
+          let p = answer-refused h in
+          record { refused = λ _ z. h z; given = λ k. absurd (false≢true (sym (rw p at k))); place = rw p (omega arith) }
+
+-- a buffer of another length is a session that never fits
+sized : (im bs : List ℕ) (sheet : ℕ) → Granted im sheet (sessionFrom bs) → length bs ≡ 230
+unfolding sessionFrom
+sized im bs sheet g = go (ℕ-discrete (length bs) 230)
+  where
+    go : Dec (length bs ≡ 230) → length bs ≡ 230
+    go (yes z) = z
+    go (no h) =
+        absurd (false≢true (sym (closed-never-fits im) ∙ ap (λ (s : Session). sessionFits im s) (sym (if-ne (length bs) 230 (sessionIn bs) closed h)) ∙ g .fits))
+
+module _ (im sheet bs : List ℕ) (e : ℕ) where
+  pub bytes-refused : (eventRefusal im (length sheet) (sessionFrom bs) e ≡ 0 → ⊥) → bs ≡ eventBytes im sheet bs e
+  unfolding eventBytes
+  bytes-refused h = sym (if-ne _ 0 _ _ h)
+
+  pub bytes-stepped : (t : List ℕ) (r : Stepped) → eventRefusal im (length sheet) (sessionFrom bs) e ≡ 0 → r ≡ eventStep im sheet (sessionFrom bs) e
+      → length (sessionBytes (r .session)) ≡ 230 → t ≡ over bs 0 (sessionBytes (r .session)) → t ≡ eventBytes im sheet bs e
+  unfolding eventBytes
+  bytes-stepped t r z q k f =
+      written bs t (r .session) (sized im bs (length sheet) (event-granted im (length sheet) (sessionFrom bs) e z .granted)) k f
+      ∙ ap (λ (x : Stepped). sessionBytes (x .session)) q ∙ sym (if-eq _ 0 _ _ z)
+
+  pub session-kept : (eventRefusal im (length sheet) (sessionFrom bs) e ≡ 0 → ⊥) → sessionFrom bs ≡ eventStep im sheet (sessionFrom bs) e .session
+  unfolding eventStep
+  session-kept h = sym (ap (λ (x : Stepped). x .session) (if-ne _ 0 _ _ h))
+
+  pub session-next : (t : List ℕ) (r : Stepped) → eventRefusal im (length sheet) (sessionFrom bs) e ≡ 0 → r ≡ eventStep im sheet (sessionFrom bs) e
+      → length (sessionBytes (r .session)) ≡ 230 → t ≡ over bs 0 (sessionBytes (r .session)) → sessionFrom (sessionBytes (r .session)) ≡ r .session
+      → sessionFrom t ≡ eventStep im sheet (sessionFrom bs) e .session
+  session-next t r z q k f b =
+      ap (λ (l : List ℕ). sessionFrom l)
+      (written bs t (r .session) (sized im bs (length sheet) (event-granted im (length sheet) (sessionFrom bs) e z .granted)) k f)
+      ∙ b ∙ ap (λ (x : Stepped). x .session) q
+
+  pub number-told : (n : ℕ) (r : Stepped) → n ≡ told (r .answer) → r ≡ eventStep im sheet (sessionFrom bs) e → n ≡ eventNumber im sheet bs e
+  unfolding eventNumber eventTold
+  number-told n r h q = h ∙ ap (λ (x : Stepped). told (x .answer)) q
+
+-- ---- Draw
+
+module _ (im bs : List ℕ) (sheet n k : ℕ) (q : k ≡ drawRefusal im sheet (sessionFrom bs) n) where
+  pub draw-refused : (r : ℕ) → (k ≡ 0 → ⊥) → r ≡ refusedBy k → r ≡ drawNumber im sheet bs n
+  unfolding drawNumber
+  draw-refused r h f = f ∙ sym (rw (← q) (if-ne k 0 _ _ h))
+
+  pub draw-given : (r : ℕ) (c : List ℕ) → k ≡ 0 → r ≡ cursorNumber c → c ≡ drawCursor im sheet (sessionFrom bs) n → r ≡ drawNumber im sheet bs n
+  unfolding drawNumber
+  draw-given r c z f g = f ∙ rw g (sym (rw (← q) (if-eq k 0 _ _ z)))
+
+  pub cursor-fits : (c : List ℕ) → k ≡ 0 → c ≡ drawCursor im sheet (sessionFrom bs) n → cursorNumber c < 131072
+  unfolding drawCursor drawRefusal
+  cursor-fits c z g =
+      rw (g, if-eq _ 0 _ _ (sym q ∙ z))
+      (cursor-plain im sheet (sessionFrom bs) (session-granted im sheet (sessionFrom bs) (none-before _ _ (sym q ∙ z) .0)))
+
+-- ---- Option text
+
+text-accepted : (im : List ℕ) (sheet place item : ℕ) → textRefusal im sheet place item ≡ 0 → refusalOf im sheet ≡ 0
+unfolding textRefusal
+text-accepted im sheet place item h = none-before _ _ h .0
+
+-- texts come no earlier than the first
+from-on : (im : List ℕ) (k at : ℕ) → at ≤ itemFrom im k at
+unfolding itemFrom
+from-on im zero at = omega arith
+from-on im (suc k) at =
+    if-ind (λ (p : ℕ). at ≤ p) (at <? length im) (λ _. omega (arith, from-on im k (at + 1 + byteAt im at))) (λ _. omega arith)
+
+-- what is known of an item that is given
+pub record Item (im : List ℕ) (place item : ℕ) (text : List ℕ) : Type 0 where
+  pub far : place + 10 ≤ itemPlace im place item
+  pub inside : itemPlace im place item < 32768
+  pub small : length text < 65536
+
+module _ (im : List ℕ) (sheet place item k : ℕ) (q : k ≡ textRefusal im sheet place item) where
+  pub item-given : (text : List ℕ) → k ≡ 0 → text ≡ optionText im sheet place item → Item im place item text
+  item-given text z e =
+      let h = item-is im sheet place item (sym q ∙ z) in
+      let s : length im ≤ 32768 = short im sheet (text-accepted im sheet place item (sym q ∙ z)) in
+      record {
+        far = from-on im item (place + 10);
+        inside = omega (arith, h .inside);
+        small = rw (e, h .bytes, length-take) (omega (arith, h .inside));
+      }
+
+  pub text-refused : (k ≡ 0 → ⊥) → 4294967296 + k ≡ textNumber im sheet place item
+  unfolding textNumber
+  text-refused h = sym (rw (← q) (if-ne k 0 _ _ h))
+
+  pub text-given : (p : ℕ) (text : List ℕ) → k ≡ 0 → p ≡ itemPlace im place item → text ≡ optionText im sheet place item
+      → 65536 * (p + 1) + length text ≡ textNumber im sheet place item
+  unfolding textNumber
+  text-given p text z e f = rw (e, f) (sym (rw (← q) (if-eq k 0 _ _ z)))
+
+-- ---- what a call ensures of a session that was taken from bytes
+
+module _ (im sheet : List ℕ) (e : ℕ) where
+  pub step-from : {s : Session} (r : Stepped) (u : Session) → s ≡ u → r ≡ eventStep im sheet s e → r ≡ eventStep im sheet u e
+  step-from r u q h = rw q at h
+
+  pub sheet-from : {s : Session} (t : List ℕ) (u : Session) → s ≡ u → t ≡ eventSheet im sheet s e → t ≡ eventSheet im sheet u e
+  sheet-from t u q h = rw q at h
+
+module _ (im : List ℕ) (sheet n : ℕ) where
+  pub refusal-from : {s : Session} (k : ℕ) (u : Session) → s ≡ u → k ≡ drawRefusal im sheet s n → k ≡ drawRefusal im sheet u n
+  refusal-from k u q h = rw q at h
+
+  pub cursor-from : {s : Session} (c : List ℕ) (u : Session) → s ≡ u → c ≡ drawCursor im sheet s n → c ≡ drawCursor im sheet u n
+  cursor-from c u q h = rw q at h
+
+pub picture-from : (im sheet picture : List ℕ) {s : Session} (t : List ℕ) (u : Session) → s ≡ u → t ≡ drawnPicture im sheet s picture → t ≡ drawnPicture im sheet u picture
+picture-from im sheet picture t u q h = rw q at h

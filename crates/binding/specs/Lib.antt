@@ -1,0 +1,5 @@
+pub mod Numbers
+pub mod Layout
+pub mod Sized
+pub mod Answers
+pub mod Calls

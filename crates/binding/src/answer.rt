@@ -1,0 +1,63 @@
+// The answers of the calls as numbers.
+ghost use mathlib.Core.Path.{_≡_};
+ghost use Prim.Native.Nat.{_<_};
+ghost use Rattle.session.specs.Steps.{told};
+ghost use Rattle.picture.specs.Cursor as cursor_at;
+ghost use Rattle.binding.specs.Answers.{refusedBy, isRefused, placeOf, cursorNumber};
+use picture::cursor::EditCursor;
+use session::step::Answer;
+
+pub const FINISHED: u32 = 65536;
+
+pub const FIRED: u32 = 131072;
+
+pub const CURSOR: u32 = 65536;
+
+pub const REFUSED: u32 = 16777216;
+
+// The number of a refusal, 0 for none.
+pub(crate) fn refused_by(refusal: u8) -> u32
+    ensures { λ r. ⌜ r ≡ refusedBy refusal ⌝ }
+{
+    if refusal == 0 {
+        return 0;
+    }
+    REFUSED + refusal as u32
+}
+
+pub(crate) fn is_refused(answer: Answer) -> bool
+    ensures { λ r. ⌜ r ≡ isRefused answer ⌝ }
+{
+    match answer {
+        Answer::Taken => false,
+        Answer::Flash => false,
+        Answer::Finished(_) => false,
+        Answer::Fired(_) => false,
+        Answer::Refused(_) => true,
+    }
+}
+
+// What an event answered.
+pub(crate) fn told(answer: Answer) -> u32
+    requires { ⌜ placeOf answer < 65536 ⌝ }
+    ensures { λ r. ⌜ r ≡ told answer ⌝ }
+{
+    match answer {
+        Answer::Taken => 0,
+        Answer::Flash => 1,
+        Answer::Finished(p) => FINISHED + p.0 as u32,
+        Answer::Fired(p) => FIRED + p.0 as u32,
+        Answer::Refused(n) => REFUSED + n as u32,
+    }
+}
+
+// Where the edit cursor stands, 0 for nowhere.
+pub(crate) fn cursor_number(cursor: EditCursor) -> u32
+    requires { ⌜ cursorNumber (cursor_at.told cursor) < 131072 ⌝ }
+    ensures { λ r. ⌜ r ≡ cursorNumber (cursor_at.told cursor) ⌝ }
+{
+    match cursor {
+        EditCursor::Nowhere => 0,
+        EditCursor::At { row, column } => CURSOR + 256 * row as u32 + column as u32,
+    }
+}

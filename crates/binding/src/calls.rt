@@ -1,0 +1,119 @@
+// The calls that C sees: handset_open, handset_event, handset_draw and handset_option_text.
+ghost use mathlib.Core.Path.{_≡_};
+ghost use lib.ListN.{length};
+ghost use Rattle.binding.specs.Layout.{sessionFrom};
+ghost use Rattle.binding.specs.Calls.{openNumber, openedSheet, openedBytes, openedSession, eventNumber, eventBytes, drawNumber, textNumber};
+ghost use Rattle.handset.specs.Refusals.{_before_};
+ghost use Rattle.handset.specs.Open.{openRefusal};
+ghost use Rattle.handset.specs.Event.{eventStep, eventSheet};
+ghost use Rattle.handset.specs.Draw.{drawnPicture};
+use crate::answer::REFUSED;
+use crate::answer::cursor_number;
+use crate::answer::is_refused;
+use crate::answer::refused_by;
+use crate::answer::told;
+use crate::layout::SIZE;
+use crate::read::read_session;
+use crate::write::write_session;
+use cmf::text::item_place;
+use field::kind::ImagePlace;
+use handset::draw::draw;
+use handset::open::open;
+use handset::option::option_text;
+use handset::refusal::NO_SHAPE;
+use handset::refusal::session_refusal;
+use session::fits::shape_fits;
+use session::session::Session;
+
+const REFUSED_TEXT: u64 = 4294967296;
+
+// The refusal of an Open whose session would not fit its buffer: 1, 2 to 11, then 12.
+fn unsized_refusal(image: &[u8], sheet: usize, columns: u8, lines: u8) -> u8
+    ensures { λ r. ⌜ r ≡ openRefusal (now (image .entry)) sheet columns lines before 12 ⌝ }
+{
+    let shape = shape_fits(columns, lines);
+    if !shape {
+        return NO_SHAPE;
+    }
+    session_refusal(image, sheet, Session::closed())
+}
+
+#[no_mangle]
+pub extern "C" fn handset_open(
+    image: &[u8],
+    sheet: &mut [u8],
+    columns: u8,
+    lines: u8,
+    session: &mut [u8],
+) -> u32
+    ensures { λ r. ⌜ r ≡ openNumber (now (image .entry)) (length (now (sheet .entry))) columns lines (length (now (session .entry))) ⌝ }
+    ensures { λ _. ⌜ now (sheet .exit) ≡ openedSheet (now (image .entry)) (now (sheet .entry)) columns lines (length (now (session .entry))) ⌝ }
+    ensures { λ _. ⌜ now (session .exit) ≡ openedBytes (now (image .entry)) (length (now (sheet .entry))) columns lines (now (session .entry)) ⌝ }
+    ensures { λ _. ⌜ sessionFrom (now (session .exit)) ≡ openedSession (now (image .entry)) (length (now (sheet .entry))) columns lines (length (now (session .entry))) ⌝ }
+{
+    if session.len() != SIZE {
+        return REFUSED + unsized_refusal(image, sheet.len(), columns, lines) as u32;
+    }
+    let opened = open(image, &mut *sheet, columns, lines);
+    let first = opened.session;
+    write_session(&mut *session, first);
+    refused_by(opened.refusal)
+}
+
+#[no_mangle]
+pub extern "C" fn handset_event(
+    image: &[u8],
+    sheet: &mut [u8],
+    session: &mut [u8],
+    event: u8,
+) -> u32
+    ensures { λ r. ⌜ r ≡ eventNumber (now (image .entry)) (now (sheet .entry)) (now (session .entry)) event ⌝ }
+    ensures { λ _. ⌜ now (sheet .exit) ≡ eventSheet (now (image .entry)) (now (sheet .entry)) (sessionFrom (now (session .entry))) event ⌝ }
+    ensures { λ _. ⌜ now (session .exit) ≡ eventBytes (now (image .entry)) (now (sheet .entry)) (now (session .entry)) event ⌝ }
+    ensures { λ _. ⌜ sessionFrom (now (session .exit)) ≡ eventStep (now (image .entry)) (now (sheet .entry)) (sessionFrom (now (session .entry))) event .session ⌝ }
+{
+    let before = read_session(&*session);
+    let stepped = handset::event::event(image, &mut *sheet, before, event);
+    let answer = stepped.answer;
+    let refused = is_refused(answer);
+    if refused {
+        return told(answer);
+    }
+    let next = stepped.session;
+    write_session(&mut *session, next);
+    told(answer)
+}
+
+#[no_mangle]
+pub extern "C" fn handset_draw(
+    image: &[u8],
+    sheet: &[u8],
+    session: &[u8],
+    picture: &mut [u8],
+) -> u32
+    ensures { λ r. ⌜ r ≡ drawNumber (now (image .entry)) (length (now (sheet .entry))) (now (session .entry)) (length (now (picture .entry))) ⌝ }
+    ensures { λ _. ⌜ now (picture .exit) ≡ drawnPicture (now (image .entry)) (now (sheet .entry)) (sessionFrom (now (session .entry))) (now (picture .entry)) ⌝ }
+{
+    let shown = read_session(session);
+    let drawn = draw(image, sheet, shown, &mut *picture);
+    let refusal = drawn.refusal;
+    if refusal != 0 {
+        return refused_by(refusal);
+    }
+    let cursor = drawn.cursor;
+    cursor_number(cursor)
+}
+
+#[no_mangle]
+pub extern "C" fn handset_option_text(image: &[u8], sheet: &[u8], place: usize, item: usize) -> u64
+    ensures { λ r. ⌜ r ≡ textNumber (now (image .entry)) (length (now (sheet .entry))) place item ⌝ }
+{
+    let mut refusal: u8 = 0;
+    let text = option_text(image, sheet, ImagePlace(place), item, &mut refusal);
+    let length = text.len() as u64;
+    if refusal != 0 {
+        return REFUSED_TEXT + refusal as u64;
+    }
+    let start = item_place(image, item, place + 10) as u64 + 1;
+    65536 * start + length
+}

@@ -1,0 +1,115 @@
+// A session read from bytes. Bytes of another length are the closed session, which never fits.
+ghost use mathlib.Core.Path.{_≡_};
+ghost use Prim.Native.Nat.{_<_};
+ghost use Rattle.laws.specs.Bytes.{byteAt};
+ghost use Rattle.binding.specs.Numbers.{numberAt, numbersFrom};
+ghost use Rattle.binding.specs.Layout.{levelFrom, levelsFrom, modeBy, sessionIn, sessionFrom};
+use crate::layout::ABOVE;
+use crate::layout::CELL;
+use crate::layout::CELLS;
+use crate::layout::CHOSEN;
+use crate::layout::HERE;
+use crate::layout::IDLE;
+use crate::layout::LEVEL;
+use crate::layout::MODE;
+use crate::layout::PASSWORD;
+use crate::layout::PLACE;
+use crate::layout::SIZE;
+use crate::layout::TYPED;
+use crate::layout::VISIT;
+use crate::number::number_at;
+use field::kind::ImagePlace;
+use field::work::Work;
+use laws::byte_at;
+use session::session::Level;
+use session::session::Mode;
+use session::session::Session;
+
+fn level_at(bytes: &[u8], at: usize) -> Level
+    requires { ⌜ at < 4096 ⌝ }
+    ensures { λ r. ⌜ r ≡ levelFrom at (now (bytes .entry)) ⌝ }
+{
+    Level {
+        table: ImagePlace(number_at(bytes, at, PLACE) as usize),
+        cursor: byte_at(bytes, at + 8),
+        first: byte_at(bytes, at + 9),
+    }
+}
+
+fn levels(bytes: &[u8]) -> [Level; 7]
+    ensures { λ r. ⌜ r ≡ levelsFrom 7 3 (now (bytes .entry)) ⌝ }
+{
+    [
+        level_at(bytes, ABOVE),
+        level_at(bytes, ABOVE + LEVEL),
+        level_at(bytes, ABOVE + 2 * LEVEL),
+        level_at(bytes, ABOVE + 3 * LEVEL),
+        level_at(bytes, ABOVE + 4 * LEVEL),
+        level_at(bytes, ABOVE + 5 * LEVEL),
+        level_at(bytes, ABOVE + 6 * LEVEL),
+    ]
+}
+
+// A number that is no mode's is browsing; of a count of digits the lowest byte counts.
+fn mode(bytes: &[u8]) -> Mode
+    ensures { λ r. ⌜ r ≡ modeBy (byteAt (now (bytes .entry)) 84) (numberAt 8 85 (now (bytes .entry))) ⌝ }
+{
+    let of = number_at(bytes, MODE + 1, PLACE);
+    match byte_at(bytes, MODE) {
+        VISIT => Mode::Visit(ImagePlace(of as usize)),
+        PASSWORD => Mode::Password((of % 256) as u8),
+        _ => Mode::Browsing,
+    }
+}
+
+fn cells(bytes: &[u8]) -> [u32; 32]
+    ensures { λ r. ⌜ r ≡ numbersFrom 4 32 94 (now (bytes .entry)) ⌝ }
+{
+    let mut cells = [0; 32];
+    let mut i = 0;
+    while i < 32 {
+        cells[i] = number_at(bytes, CELLS + CELL * i, CELL) as u32;
+        i = i + 1;
+    }
+    cells
+}
+
+fn typed(bytes: &[u8]) -> [u8; 8]
+    ensures { λ r. ⌜ r ≡ numbersFrom 1 8 222 (now (bytes .entry)) ⌝ }
+{
+    let mut digits = [0; 8];
+    let mut i = 0;
+    while i < 8 {
+        digits[i] = number_at(bytes, TYPED + i, 1) as u8;
+        i = i + 1;
+    }
+    digits
+}
+
+fn session_in(bytes: &[u8]) -> Session
+    ensures { λ r. ⌜ r ≡ sessionIn (now (bytes .entry)) ⌝ }
+{
+    Session {
+        columns: byte_at(bytes, 0),
+        lines: byte_at(bytes, 1),
+        outer: byte_at(bytes, 2),
+        above: levels(bytes),
+        here: level_at(bytes, HERE),
+        idle: byte_at(bytes, IDLE),
+        mode: mode(bytes),
+        work: Work {
+            cells: cells(bytes),
+            at: byte_at(bytes, CHOSEN),
+        },
+        typed: typed(bytes),
+    }
+}
+
+pub fn read_session(bytes: &[u8]) -> Session
+    ensures { λ r. ⌜ r ≡ sessionFrom (now (bytes .entry)) ⌝ }
+{
+    if bytes.len() == SIZE {
+        return session_in(bytes);
+    }
+    Session::closed()
+}
