@@ -18,7 +18,7 @@ use Rattle.cmf.specs.Readers.{componentAt}
 use Rattle.cmf.specs.declared.component.Component.{Component}
 use Rattle.walk.specs.Check.{refusalOf}
 use Rattle.walk.proofs.Acceptance.{accepted-exactly-when-well-formed}
-use Rattle.session.specs.Steps.{taken, flash}
+use Rattle.session.specs.Steps.{isRefused, taken, flash}
 use Rattle.session.specs.Seconds.{browseSecond, entrySecond}
 use Rattle.session.specs.Browsing.{upStep, downStep, leftStep, descended, rightStep, enterStep, browseStep}
 use Rattle.session.specs.Passwords.{lastDigit, digitStep, entryStep}
@@ -32,7 +32,7 @@ use Rattle.session.specs.declared.session.Session.{Session}
 use Rattle.session.specs.declared.step.Stepped.{Stepped}
 use Rattle.picture.specs.Cursor.{cursorIn, dataCell}
 use Rattle.handset.proofs.Ordering.{Granted}
-use Rattle.binding.specs.Answers.{isRefused, placeOf, cursorNumber}
+use Rattle.binding.specs.Answers.{placeOf, cursorNumber}
 
 -- ---- a step's answer
 
@@ -43,11 +43,11 @@ pub record Plain (n : ℕ) (r : Stepped) : Type 0 where
 
 module _ {n : ℕ} where
   plain-taken : (s : Session) → Plain n (taken s)
-  unfolding isRefused placeOf
+  unfolding placeOf
   plain-taken s = record { given = refl; near = omega arith }
 
   plain-flash : (s : Session) → Plain n (flash s)
-  unfolding isRefused placeOf
+  unfolding placeOf
   plain-flash s = record { given = refl; near = omega arith }
 
   either : (t : Bool) {x y : Stepped} → Plain n x → Plain n y → Plain n (if t then x else y)
@@ -62,7 +62,7 @@ module _ {n : ℕ} where
   plain-entry im s k e = search (either, plain-taken, plain-flash) depth 12
 
 plain-followed : (im sheet : List ℕ) (s : Session) (p : ImagePlace) (f : Field) (w : Work) (o : Outcome) → Plain (p .0) (followed im sheet s p f w o)
-unfolding followed isRefused placeOf
+unfolding followed placeOf
 plain-followed im sheet s p f w outcome.Taken = record { given = refl; near = omega arith }
 plain-followed im sheet s p f w outcome.Flash = record { given = refl; near = omega arith }
 plain-followed im sheet s p f w outcome.NextPart = record { given = refl; near = omega arith }

@@ -16,7 +16,7 @@ use Rattle.walk.specs.Check.{refusalOf}
 use Rattle.cmf.specs.Readers.{itemFrom, itemPlace}
 use Rattle.session.specs.Session.{closed}
 use Rattle.session.specs.Fits.{shapeFits, sessionFits}
-use Rattle.session.specs.Steps.{told}
+use Rattle.session.specs.Steps.{isRefused, told}
 use Rattle.session.specs.declared.session.Session.{Session}
 use Rattle.session.specs.declared.step.Stepped.{Stepped}
 use Rattle.session.proofs.Closed.{closed-never-fits}
@@ -30,7 +30,7 @@ use Rattle.handset.proofs.Items.{item-is}
 use Rattle.handset.proofs.Ordering.{first-given, next-given, holding, failing, none-before, Granted, session-granted}
 use Rattle.handset.proofs.Stepping.{event-granted}
 use Rattle.binding.specs.Layout.{sessionBytes, sessionIn, sessionFrom}
-use Rattle.binding.specs.Answers.{refusedBy, isRefused, placeOf, cursorNumber}
+use Rattle.binding.specs.Answers.{refusedBy, placeOf, cursorNumber}
 use Rattle.binding.specs.Calls.{openNumber, openedSheet, openedBytes, openedSession, eventNumber, eventBytes, drawNumber, textNumber}
 use Rattle.binding.proofs.Answering.{Plain, step-plain, short, cursor-plain}
 
@@ -123,7 +123,7 @@ module _ (im sheet : List ℕ) (s : Session) (e : ℕ) (r : Stepped) (q : r ≡ 
   answer-refused h = q ∙ if-ne _ 0 _ _ h
 
   pub answer-told : Told
-  unfolding placeOf isRefused
+  unfolding placeOf
   answer-told = go (ℕ-discrete (eventRefusal im (length sheet) s e) 0)
     where
       go : Dec (eventRefusal im (length sheet) s e ≡ 0) → Told

@@ -1,27 +1,24 @@
 -- The answers as numbers.
 use Prim.Native.Nat.{ℕ, _+_, _*_}
-use mathlib.Core.Bool.{Bool, true, false}
 use mathlib.Core.List.{List, [], _∷_}
 use Rattle.laws.specs.Choice.{if_then_else_, _=?_}
+use Rattle.session.specs.Steps.{refusedFrom}
 use Rattle.session.specs.declared.step.Answer.{Answer}
 use Rattle.session.specs.declared.step.Answer.the-variants as answer
 
--- 16,777,216 + a refusal's number; 0 where nothing is refused
+-- a refusal's number with 16,777,216 added, as in an answer; 0 where nothing is refused
 unfoldable pub refusedBy : ℕ → ℕ
-refusedBy k = if k =? 0 then 0 else 16777216 + k
+refusedBy k = if k =? 0 then 0 else refusedFrom + k
 
-unfoldable pub isRefused : Answer → Bool
-isRefused answer.Taken = false
-isRefused answer.Flash = false
-isRefused (answer.Finished p) = false
-isRefused (answer.Fired p) = false
-isRefused (answer.Refused n) = true
+-- an edit cursor's number counts from here
+abbrev pub cursorFrom : ℕ
+cursorFrom = 65536
 
 -- 65,536 + 256 * row + column; 0 for no edit cursor
 unfoldable pub cursorNumber : List ℕ → ℕ
 cursorNumber [] = 0
 cursorNumber (row ∷ []) = 0
-cursorNumber (row ∷ column ∷ rest) = 65536 + 256 * row + column
+cursorNumber (row ∷ column ∷ rest) = cursorFrom + 256 * row + column
 
 -- the image place in an answer; an answer that is given has one below 32,768
 unfoldable pub placeOf : Answer → ℕ

@@ -55,8 +55,15 @@ drawNumber im sheet bs n =
 
 -- ---- Option text: where the item's own bytes begin in the image, and how many they are
 
+-- a place counts so many times, so that the length of an item fits below it; a refusal of a text counts from the other
+abbrev pub placeFactor : ℕ
+placeFactor = 65536
+
+abbrev pub textRefusedFrom : ℕ
+textRefusedFrom = 4294967296
+
 unfoldable pub textNumber : List ℕ → ℕ → ℕ → ℕ → ℕ
 textNumber im sheet place item =
     if textRefusal im sheet place item =? 0
-    then 65536 * (itemPlace im place item + 1) + length (optionText im sheet place item)
-    else 4294967296 + textRefusal im sheet place item
+    then placeFactor * (itemPlace im place item + 1) + length (optionText im sheet place item)
+    else textRefusedFrom + textRefusal im sheet place item

@@ -3,7 +3,8 @@ ghost use mathlib.Core.Path.{_≡_};
 ghost use Prim.Native.Nat.{_<_};
 ghost use Rattle.session.specs.Steps.{told};
 ghost use Rattle.picture.specs.Cursor as cursor_at;
-ghost use Rattle.binding.specs.Answers.{refusedBy, isRefused, placeOf, cursorNumber};
+ghost use Rattle.session.specs.Steps.{isRefused};
+ghost use Rattle.binding.specs.Answers.{refusedBy, placeOf, cursorNumber};
 use picture::cursor::EditCursor;
 use session::step::Answer;
 

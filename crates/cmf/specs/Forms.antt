@@ -48,7 +48,7 @@ pub data Form (im : List ℕ) (at : ℕ) : (bytes texts : ℕ) (fs : List Field)
   trigger : code im at ≡ 0x17 → Form im at 4 0 (triggerAt im at ∷ [])
 
 -- the component at a place is this field
-pub record IsField (im : List ℕ) (at : ℕ) (f : Field) : Type 0 where
+pub record FieldIs (im : List ℕ) (at : ℕ) (f : Field) : Type 0 where
   pub bytes : ℕ
   pub texts : ℕ
   pub form : Form im at bytes texts (f ∷ [])

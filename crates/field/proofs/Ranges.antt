@@ -7,18 +7,20 @@ use native.Mathlib.Omega.{arith}
 use lib.ListN.{length, getD, length-append}
 use borrow.Author.Tests.{ltb-true, ltb-false, eqb-true, eqb-false}
 use lib.Dec.{lit≤}
-use Rattle.laws.specs.Choice.{if_then_else_, _=?_, _<?_}
+use mathlib.Core.Bool.{Bool, true}
+use Rattle.laws.specs.Choice.{if_then_else_, _and_, _=?_, _<?_}
 use Rattle.laws.specs.Digits.{digitsOf}
 use Rattle.laws.proofs.Cases.{if-ind, if-max, if-ne, if-lt, if-ge, and-second}
 use Rattle.laws.proofs.Lists.{getD-left, getD-right}
 use Rattle.laws.proofs.Numerals.{length-digits, digit-below}
 use Rattle.field.specs.Formats.{formatOf, signsOf, digitsIn, baseOf, limitOf, halfOf, topOf, numeralOf, bitsIn, bitsOf}
 use Rattle.field.specs.Table.{profileOf, cellOf, flag, digit}
-use Rattle.field.specs.Cells.{spans, distance, signOf, inDigits, cellsOf, inSpan, inRange}
+use Rattle.field.specs.Cells.{biased, spans, distance, signOf, inDigits, cellsOf, inSpan, within, legalTo, legal, inRange}
 use Rattle.field.specs.Sound.{Sound}
 use Rattle.field.specs.declared.numeral.Numeral.{Numeral}
 use Rattle.field.specs.declared.kind.Format.{Format}
-use Rattle.field.specs.declared.kind.Kind.the-variants.{Integer, Switch}
+use Rattle.field.specs.declared.kind.Kind.the-variants.{Integer, Counter, Time, Date, Switch, Option, Trigger}
+use Rattle.field.specs.declared.kind.CounterSettings.{CounterSettings}
 use Rattle.field.specs.declared.table.Cell.{Cell}
 use Rattle.field.proofs.Bounds.{base-ge, format-sound, bits-sound}
 use Rattle.field.proofs.Kept.{Within, LegalCells, legal-bool}
@@ -135,3 +137,25 @@ range-of-integer f x = and-second _ (legal-bool (Integer f) _ (digits-integer f 
 pub range-of-switch : (n x : ℕ) → inRange (Switch n) x ≡ spans (bitsOf n) x
 unfolding inRange inSpan cellsOf
 range-of-switch n x = and-second _ (legal-bool (Switch n) _ (digits-switch n _ (digit-cells (bitsOf n) (bits-sound n) x)))
+
+-- a single cell is all that there is of a counter or an option
+pub range-of-counter : (s : CounterSettings) (x : ℕ) → inRange (Counter s) x ≡ within (cellOf (Counter s) 0) (biased x)
+unfolding inRange inSpan legal legalTo profileOf cellsOf _and_
+range-of-counter s x = refl
+
+pub range-of-option : (n w x : ℕ) → inRange (Option n w) x ≡ within (cellOf (Option n w) 0) x
+unfolding inRange inSpan legal legalTo profileOf cellsOf _and_
+range-of-option n w x = refl
+
+-- a time or date is settled by its cells, and so is a trigger
+pub range-of-time : (long : Bool) (x : ℕ) → inRange (Time long) x ≡ legal (Time long) (cellsOf (Time long) x)
+unfolding inRange inSpan _and_
+range-of-time long x = refl
+
+pub range-of-date : (long : Bool) (x : ℕ) → inRange (Date long) x ≡ legal (Date long) (cellsOf (Date long) x)
+unfolding inRange inSpan _and_
+range-of-date long x = refl
+
+pub range-of-trigger : (x : ℕ) → inRange Trigger x ≡ true
+unfolding inRange inSpan legal legalTo profileOf cellOf cellsOf within _and_
+range-of-trigger x = refl

@@ -5,9 +5,10 @@ ghost use Prim.Native.Nat.{_*_, _/_, _%_, _<_};
 ghost use lib.ListN.{getD};
 ghost use Rattle.laws.specs.Choice.{if_then_else_, _and_};
 ghost use Rattle.field.specs.Table.{cellOf};
-ghost use Rattle.field.specs.Cells.{biased, cellsOf, storedIn, inSpan, stores, within, legal, inRange, workOf, started, finished};
+ghost use Rattle.field.specs.Cells.{biased, cellsOf, storedIn, stores, within, legal, inRange, workOf, started, finished};
 use crate::kind::Kind;
 use crate::numeral::Numeral;
+use crate::table::Cell;
 use crate::table::cell_of;
 use crate::table::profile_of;
 use crate::value::Value;
@@ -161,30 +162,31 @@ impl Work {
     }
 }
 
-fn in_span(kind: Kind, x: u32) -> bool
-    ensures { λ r. ⌜ r ≡ inSpan kind x ⌝ }
+// Whether a number is within the ends of a cell.
+fn is_within(c: Cell, x: u32) -> bool
+    ensures { λ r. ⌜ r ≡ within c x ⌝ }
+{
+    if c.low <= x {
+        return x <= c.high;
+    }
+    false
+}
+
+// Whether a number that the field's bytes can hold is in its range. The digits of an integer or switch are legal by themselves, so that no cells
+// are made for them, nor for a single cell.
+pub fn in_range(kind: Kind, x: u32) -> bool
+    ensures { λ r. ⌜ r ≡ inRange kind x ⌝ }
 {
     match kind {
         Kind::Integer(f) => f.numeral().spans(x as u64),
-        Kind::Counter(_) => true,
-        Kind::Time(_) => true,
-        Kind::Date(_) => true,
+        Kind::Counter(_) => is_within(cell_of(kind, 0), bias(x as u64) as u32),
+        Kind::Time(_) => Work::showing(kind, x).legal(kind),
+        Kind::Date(_) => Work::showing(kind, x).legal(kind),
         Kind::Switch(n) => Numeral::of_bits(n).spans(x as u64),
         Kind::Option {
             items: _,
             longest: _,
-        } => true,
+        } => is_within(cell_of(kind, 0), x),
         Kind::Trigger => true,
     }
-}
-
-// Whether a number that the field's bytes can hold is in its range.
-pub fn in_range(kind: Kind, x: u32) -> bool
-    ensures { λ r. ⌜ r ≡ inRange kind x ⌝ }
-{
-    let w = Work::showing(kind, x);
-    if in_span(kind, x) {
-        return w.legal(kind);
-    }
-    false
 }

@@ -35,7 +35,7 @@ use Rattle.walk.proofs.Fields.{others-apart, field-inside}
 use Rattle.walk.proofs.Reach.{part-of}
 use Rattle.session.specs.Events.{up, down, left, right, enter, second, lastDigitKey}
 use Rattle.session.specs.Fits.{cursorLine, cursorHead, among, workFits, visitFits, modeFits, sessionFits}
-use Rattle.session.specs.Steps.{taken, flash, withIdle, browsing}
+use Rattle.session.specs.Steps.{taken, flash, withIdle, browsing, isFlash, isRefused}
 use Rattle.session.specs.Seconds.{browseSecond, entrySecond}
 use Rattle.session.specs.Browsing.{upStep, downStep, leftStep, descended, rightStep, foundNone, firstEditable, visitAt, enterStep, browseStep}
 use Rattle.session.specs.Passwords.{lastDigit, digitStep, entryStep}
@@ -50,7 +50,7 @@ use Rattle.session.specs.declared.step.Answer.the-variants as answer
 use Rattle.session.specs.declared.step.Stepped.{Stepped}
 use Rattle.handset.specs.Event.{eventRefusal, refusedWith, eventStep, eventSheet}
 use Rattle.handset.proofs.Stepping.{refused-step, refused-sheet, stepped, stepped-sheet, EventGranted, event-granted}
-use Rattle.journal.specs.Journal.{answered, Out, on, stored, isFlash, isRefused, ignored, counts}
+use Rattle.journal.specs.Journal.{answered, Out, on, stored, ignored, counts}
 use Rattle.journal.specs.Rules.{fieldAt, openerOf, outOf, pressedOut, startOf, rulesOf, IsField}
 use Rattle.journal.specs.Sitting.{Sitting, sitting, next, answerTo}
 use Rattle.journal.proofs.Components.{own-place, editable-holds, among-in, EditableIn, first-editable-in, next-editable-in}

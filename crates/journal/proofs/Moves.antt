@@ -19,7 +19,7 @@ use Rattle.field.specs.declared.keys.Outcome.the-variants as outcome
 use Rattle.cmf.specs.Readers.{textBytes, headAt}
 use Rattle.walk.proofs.Acceptance.{accepted-exactly-when-well-formed}
 use Rattle.session.specs.Events.{lastDigitKey, right, second}
-use Rattle.session.specs.Steps.{withIdle}
+use Rattle.session.specs.Steps.{withIdle, isFlash}
 use Rattle.session.specs.Fits.{cursorLine, cursorHead, modeFits, entryFits, sessionFits}
 use Rattle.session.specs.Seconds.{browseSecond, entrySecond}
 use Rattle.session.specs.Browsing.{upStep, downStep, leftStep, descended, rightStep, enterStep, browseStep}
@@ -34,7 +34,7 @@ use Rattle.session.specs.declared.step.Answer.the-variants as answer
 use Rattle.session.specs.declared.step.Stepped.{Stepped}
 use Rattle.handset.specs.Event.{eventRefusal, eventStep}
 use Rattle.handset.proofs.Stepping.{EventGranted, event-granted}
-use Rattle.journal.specs.Journal.{answered, isFlash, ignored}
+use Rattle.journal.specs.Journal.{answered, ignored}
 use Rattle.journal.specs.Protected.{typedMore, asDigits}
 use Rattle.journal.proofs.Reached.{cursor-line-in}
 use Rattle.journal.proofs.Passwords.{Stands, head-guarded, typed-right}

@@ -1,22 +1,32 @@
 -- The three demands: each part is a theorem of another file, or an equation of a call's definition.
-use Prim.Native.Nat.{ℕ, _+_, _≤_}
+use Prim.Native.Nat.{ℕ, _+_, _*_, _≤_, _<_}
 use mathlib.Core.Path.{_≡_, refl, sym, ap, _∙_}
-use mathlib.Core.Logic.{_⊎_}
-use mathlib.Core.List.{List, List·Memᴰ}
+use mathlib.Core.Logic.{_⊎_, inl, inr}
+use mathlib.Core.Bool.{Bool, true, false}
+use mathlib.Core.List.{List, [], _∷_, map, List·Memᴰ, List·Memᴰ·cases-cons, List·Memᴰ·not-nil}
+use native.Mathlib.Omega.{arith}
 use lib.ListN.{length}
-use Rattle.laws.specs.Choice.{_=?_}
+use borrow.Author.Tests.{eqb-true, eqb-false, lt-ltb}
+use Rattle.laws.specs.Choice.{if_then_else_, _and_, _=?_, _<?_, _≤?_}
 use Rattle.laws.specs.Parts.{partAt}
-use Rattle.laws.proofs.Cases.{if-eq, if-ne}
+use Rattle.laws.proofs.Cases.{by-test, if-true, if-false, if-eq, if-ne, and-i}
 use Rattle.field.specs.Sheet.{sizeOf}
 use Rattle.field.specs.declared.record.Field.{Field}
 use Rattle.cmf.specs.Grammar.{WellFormed}
-use Rattle.walk.proofs.Acceptance.{accepted-exactly-when-well-formed}
+use Rattle.walk.specs.Check.{entryOf, checked, refusalOf}
+use Rattle.walk.proofs.Acceptance.{accepted-exactly-when-well-formed, counted}
 use Rattle.walk.proofs.Faulty.{refused-exactly-when}
 use Rattle.walk.proofs.Fields.{every-in}
+use Rattle.session.specs.Events.{second}
+use Rattle.session.specs.Fits.{shapeFits, sessionFits}
+use Rattle.session.specs.declared.session.Session.{Session}
 use Rattle.session.proofs.Closed.{closed-never-fits}
+use Rattle.handset.specs.Refusals.{_before_, _unless_, sessionRefusal}
+use Rattle.handset.specs.Event.{eventRefusal}
 use Rattle.handset.specs.Open.{openRefusal, openAnswer, openSheet}
-use Rattle.handset.specs.OptionText.{textRefusal, optionText}
+use Rattle.handset.specs.OptionText.{reached, itemsIn, textRefusal, optionText}
 use Rattle.handset.specs.Draw.{drawRefusal, drawCursor, drawnPicture}
+use Rattle.handset.proofs.Ordering.{first-given, next-given, holding, failing, none-before, none-unless}
 use Rattle.handset.proofs.Stepping.{refused-step, refused-sheet, stepped, stepped-sheet}
 use Rattle.handset.proofs.Defaults.{Standing, all, others-stay}
 use Rattle.handset.proofs.Items.{item-is}
@@ -28,10 +38,62 @@ use Rattle.journal.proofs.Beside.{played-apart}
 use Rattle.journal.proofs.Protected.{only-after-its-digits, every-protected-line-was-opened-by-its-digits}
 use Rattle.journal.proofs.Unrefused.{never-refused}
 
+-- ---- the order of refusals, as choices
+
+-- a test behind a number
+one-test : (r a : ℕ) (t : Bool) → r before (a unless t) ≡ (if r =? 0 then (if t then 0 else a) else r)
+unfolding _before_ _unless_
+one-test r a t = refl
+
+-- and another behind both
+two-tests : (r a b : ℕ) (t u : Bool) → (a ≡ 0 → ⊥) → (r before (a unless t)) before (b unless u) ≡ (if r =? 0 then (if t then (if u then 0 else b) else a) else r)
+unfolding _unless_
+two-tests r a b t u h =
+    by-test (r =? 0)
+    (λ z. let e = eqb-true r 0 z in
+    rw (if-true {t = r =? 0} (if t then (if u then 0 else b) else a) r z, next-given r (if t then 0 else a) e)
+    (by-test t (λ y. rw (if-true {t = t} (if u then 0 else b) a y, if-true {t = t} 0 a y) (next-given 0 _ refl))
+    (λ y. rw (if-false {t = t} (if u then 0 else b) a y, if-false {t = t} 0 a y) (first-given a _ h))))
+    (λ z. let e = eqb-false r 0 z in
+    rw (if-false {t = r =? 0} (if t then (if u then 0 else b) else a) r z, first-given r (if t then 0 else a) e) (first-given r _ e))
+
+open-order : (im : List ℕ) (sheet columns lines : ℕ) → openRefusal im sheet columns lines ≡ (if shapeFits columns lines then refusalOf im sheet else 1)
+unfolding openRefusal
+open-order im sheet columns lines =
+    by-test (shapeFits columns lines)
+    (λ z. rw (if-true {t = shapeFits columns lines} (refusalOf im sheet) 1 z, holding 1 (shapeFits columns lines) z) (next-given 0 _ refl))
+    (λ z. rw (if-false {t = shapeFits columns lines} (refusalOf im sheet) 1 z, failing 1 (shapeFits columns lines) z) (first-given 1 _ (λ e. omega arith)))
+
+event-order : (im : List ℕ) (sheet : ℕ) (s : Session) (e : ℕ)
+    → eventRefusal im sheet s e
+    ≡ (if refusalOf im sheet =? 0 then (if sessionFits im s then (if e ≤? second then 0 else 13) else 12) else refusalOf im sheet)
+unfolding eventRefusal sessionRefusal
+event-order im sheet s e = two-tests (refusalOf im sheet) 12 13 (sessionFits im s) (e ≤? second) (λ z. omega arith)
+
+draw-order : (im : List ℕ) (sheet : ℕ) (s : Session) (n : ℕ)
+    → drawRefusal im sheet s n
+    ≡ (if refusalOf im sheet =? 0 then (if sessionFits im s then (if n =? s .columns * s .lines then 0 else 1) else 12) else refusalOf im sheet)
+unfolding drawRefusal sessionRefusal
+draw-order im sheet s n = two-tests (refusalOf im sheet) 12 1 (sessionFits im s) (n =? s .columns * s .lines) (λ z. omega arith)
+
+text-order : (im : List ℕ) (sheet place item : ℕ)
+    → textRefusal im sheet place item
+    ≡ (if refusalOf im sheet =? 0
+    then (if reached place (checked im sheet .fields) and (item <? itemsIn (fieldAt im place .kind)) then 0 else 14)
+    else refusalOf im sheet)
+unfolding textRefusal
+text-order im sheet place item = one-test (refusalOf im sheet) 14 _
+
+-- ---- demand 1
+
 pub demand-1 : Demand1
 unfolding openAnswer openSheet drawCursor drawnPicture optionText
 demand-1 = record {
   number = refused-exactly-when;
+  open-number = open-order;
+  event-number = event-order;
+  draw-number = draw-order;
+  text-number = text-order;
   open-closes = λ im sheet columns lines h. if-ne (openRefusal im sheet columns lines) 0 _ _ h;
   open-keeps = λ im sheet columns lines h. if-ne (openRefusal im (length sheet) columns lines) 0 _ _ h;
   closed-unfit = closed-never-fits;
@@ -60,10 +122,42 @@ sheet-beside im sheet columns lines h from n b =
     ap (partAt from n) (if-eq (openRefusal im (length sheet) columns lines) 0 _ _ h)
     ∙ others-stay im sheet (formed im sheet columns lines h) from n (apart-from-fields im (length sheet) (formed im sheet columns lines h) from n b)
 
+-- Open accepts exactly the well-formed images, on a display of a shape that is allowed
+open-well : (im : List ℕ) (sheet columns lines : ℕ)
+    → (openRefusal im sheet columns lines ≡ 0 → (shapeFits columns lines ≡ true) × WellFormed im sheet)
+    × ((shapeFits columns lines ≡ true) × WellFormed im sheet → openRefusal im sheet columns lines ≡ 0)
+unfolding openRefusal
+open-well im sheet columns lines =
+    let a = accepted-exactly-when-well-formed im sheet in
+    (λ z. let n = none-before _ _ z in (none-unless 1 (shapeFits columns lines) (λ e. omega arith) (n .0), a .0 (n .1)),
+    λ h. next-given _ _ (holding 1 (shapeFits columns lines) (h .0)) ∙ a .1 (h .1))
+
+-- a field of the image is reached at its place
+field-reached : (f : Field) (fs : List Field) → List·Memᴰ f fs → reached (f .image .0) (map entryOf fs) ≡ true
+unfolding reached
+field-reached f [] m = absurd (List·Memᴰ·not-nil m)
+field-reached f (g ∷ fs) m =
+    by-test (g .image .0 =? f .image .0) (λ z. if-true _ _ z)
+    (λ z. if-false _ _ z ∙ field-reached f fs (elsewhere z (List·Memᴰ·cases-cons m)))
+  where
+    elsewhere : g .image .0 =? f .image .0 ≡ false → (f ≡ g) ⊎ List·Memᴰ f fs → List·Memᴰ f fs
+    elsewhere z (inl e) = absurd (eqb-false _ _ z (ap (λ (x : Field). x .image .0) (sym e)))
+    elsewhere z (inr k) = k
+
+given-text : (im : List ℕ) (sheet : ℕ) (w : WellFormed im sheet) (f : Field) → List·Memᴰ f (w .fields) → (item : ℕ) → item < itemsIn (f .kind)
+    → textRefusal im sheet (f .image .0) item ≡ 0
+unfolding textRefusal
+given-text im sheet w f m item h =
+    next-given _ _ (accepted-exactly-when-well-formed im sheet .1 w)
+    ∙ holding 14 _
+    (and-i (rw (counted im sheet w .index) (field-reached f (w .fields) m))
+    (rw (field-stands im sheet w f m .0) (lt-ltb item (itemsIn (f .kind)) h)))
+
 pub demand-2 : Demand2
 unfolding begunWith openAnswer drawCursor drawnPicture
 demand-2 = record {
   accepted = accepted-exactly-when-well-formed;
+  open-accepts = open-well;
   opens = λ im sheet columns lines h. if-eq (openRefusal im sheet columns lines) 0 _ _ h;
   defaults = at-default;
   nothing-else = sheet-beside;
@@ -72,6 +166,7 @@ demand-2 = record {
   stores = λ im sheet s e h. sym (stepped-sheet im sheet s e _ refl h);
   draws = λ im sheet s picture h. if-eq (drawRefusal im (length sheet) s (length picture)) 0 _ _ h;
   points = λ im sheet s n h. if-eq (drawRefusal im sheet s n) 0 _ _ h;
+  text-given = given-text;
   texts = item-is;
   protected = only-after-its-digits;
   unlocked = every-protected-line-was-opened-by-its-digits;

@@ -62,6 +62,8 @@ module _ (im : List ℕ) where
     all = rw (← append-assoc, ← u .all);
     digits = u .digits;
     shown = u .shown;
+    deep = u .deep;
+    level = u .level;
     stays =
         stays-more k (played im t (u .before)) (u .rest) e (u .stays)
         (rw (← played-join t (u .before) (u .rest ++ (e ∷ [])), ← append-assoc (u .before) (u .rest) (e ∷ []), ← u .all) h);
@@ -89,6 +91,12 @@ module _ (im : List ℕ) (t : Sitting) (es : List ℕ) (s : Session) (ks : List 
       let few : n < length (s .typed) = omega (arith, h .typed, d .few) in
       rw (d .taken) (digit-typed ks e (d .key) ∙ rw (h .entry n (d .mode)) (sym (take-suc-set (s .typed) n e few)))
 
+  -- the level that was shown goes above
+  gone-above : played im t all .session ≡ r .session → Deeper s (r .session) → getD (played im t all .session .above) (s .outer) noLevel ≡ s .here
+  gone-above p c =
+      let room : s .outer < length (s .above) = omega (arith, h .above, c .room) in
+      rw (p, c .above) (getD-set-same (s .above) (s .outer) (s .here) noLevel room)
+
   -- the line that was opened by an event
   opened-by : (n : ℕ) → Digit s e r n → played im t all .session ≡ r .session → typedSince (answeredIn im t all) ≡ keys
       → asDigits (take (suc n) (set (s .typed) n e)) ≡ textBytes im (cursorHead im (s .here) .password)
@@ -99,6 +107,8 @@ module _ (im : List ℕ) (t : Sitting) (es : List ℕ) (s : Session) (ks : List 
     all = sym (append-nil all);
     digits = ap asDigits (q ∙ digit-kept n d) ∙ ds;
     shown = ap (λ (z : Session). z .here .table .0) p ∙ b;
+    deep = ap (λ (z : Session). z .outer) p ∙ c .outer;
+    level = gone-above p c;
     stays = omega (arith, ap (λ (z : Session). z .outer) p, c .outer);
   }
 

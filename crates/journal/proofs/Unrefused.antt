@@ -26,7 +26,7 @@ use Rattle.walk.proofs.Acceptance.{accepted-exactly-when-well-formed}
 use Rattle.session.specs.Session.{opened}
 use Rattle.session.specs.Events.{second}
 use Rattle.session.specs.Fits.{shapeFits, sessionFits}
-use Rattle.session.specs.Steps.{taken, flash, withIdle}
+use Rattle.session.specs.Steps.{taken, flash, withIdle, isRefused}
 use Rattle.session.specs.Seconds.{browseSecond, entrySecond}
 use Rattle.session.specs.Browsing.{upStep, downStep, leftStep, descended, rightStep, enterStep, browseStep}
 use Rattle.session.specs.Passwords.{lastDigit, digitStep, entryStep}
@@ -43,7 +43,6 @@ use Rattle.handset.specs.Draw.{drawRefusal}
 use Rattle.handset.proofs.Ordering.{next-given, holding, failing, none-before, none-unless}
 use Rattle.handset.proofs.Stepping.{stepped}
 use Rattle.handset.proofs.Defaults.{opened-fits}
-use Rattle.journal.specs.Journal.{isRefused}
 use Rattle.journal.specs.Sitting.{Sitting, begunWith, next, answerTo, played}
 use Rattle.journal.specs.Unrefused.{NothingRefused}
 use Rattle.journal.proofs.Fitting.{Sized, Good, good-of, fits-of, Keeps, by-keeps, idle-good, up-keeps, down-keeps, left-keeps, second-keeps}

@@ -6,6 +6,7 @@ use mathlib.Core.Bool.{Bool, true, false}
 use mathlib.Core.List.{List, [], _∷_, _++_, reverse}
 use Rattle.laws.specs.Choice.{if_then_else_, _=?_}
 use Rattle.session.specs.Events.{enter, second}
+use Rattle.session.specs.Steps.{isFlash, isRefused}
 use Rattle.session.specs.declared.step.Answer.{Answer}
 use Rattle.session.specs.declared.step.Answer.the-variants as answer
 
@@ -33,21 +34,6 @@ pub record Rules (W : Type 0) : Type 0 where
   pub opener : ℕ → ℕ
 
 -- ---- events with their answers
-
--- 01: the answers that are told apart: a flash, a refusal
-abbrev pub isFlash : Answer → Bool
-isFlash answer.Taken = false
-isFlash answer.Flash = true
-isFlash (answer.Finished p) = false
-isFlash (answer.Fired p) = false
-isFlash (answer.Refused n) = false
-
-abbrev pub isRefused : Answer → Bool
-isRefused answer.Taken = false
-isRefused answer.Flash = false
-isRefused (answer.Finished p) = false
-isRefused (answer.Fired p) = false
-isRefused (answer.Refused n) = true
 
 -- an ENTER that did not flash
 abbrev pub counts : Answered → Bool

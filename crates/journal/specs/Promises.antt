@@ -1,19 +1,21 @@
 -- The coordinator's three demands, one record each, in order, over the definitions that the public contracts cite: the contract of each call
 -- equates its answer, and every byte that it was lent to write, with them. `proofs/Promises` proves all three.
-use Prim.Native.Nat.{ℕ, _<_}
+use Prim.Native.Nat.{ℕ, _*_, _<_}
 use mathlib.Core.Path.{_≡_}
 use mathlib.Core.Bool.{true, false}
 use mathlib.Core.List.{List, [], _∷_, _++_, List·Memᴰ}
 use lib.ListN.{length, getD}
+use Rattle.laws.specs.Choice.{if_then_else_, _and_, _=?_, _<?_, _≤?_}
 use Rattle.laws.specs.Parts.{partAt}
 use Rattle.field.specs.Values.{bytesOf}
 use Rattle.field.specs.Sheet.{ownBytes}
 use Rattle.field.specs.declared.record.Field.{Field}
 use Rattle.cmf.specs.Grammar.{WellFormed}
-use Rattle.walk.specs.Check.{refusalOf}
+use Rattle.walk.specs.Check.{checked, refusalOf}
 use Rattle.walk.specs.Faults.{Refused}
 use Rattle.session.specs.Session.{noLevel, opened, closed}
-use Rattle.session.specs.Fits.{cursorHead, sessionFits}
+use Rattle.session.specs.Events.{second}
+use Rattle.session.specs.Fits.{shapeFits, cursorHead, sessionFits}
 use Rattle.session.specs.Event.{stepOf, sheetOf}
 use Rattle.session.specs.declared.session.Session.{Session}
 use Rattle.picture.specs.Rows.{pictureOf}
@@ -21,7 +23,7 @@ use Rattle.picture.specs.Cursor.{editCursor}
 use Rattle.handset.specs.Open.{openRefusal, openAnswer, openSheet}
 use Rattle.handset.specs.Event.{eventRefusal, refusedWith, eventStep, eventSheet}
 use Rattle.handset.specs.Draw.{drawRefusal, drawCursor, drawnPicture}
-use Rattle.handset.specs.OptionText.{ItemIs, textRefusal, optionText}
+use Rattle.handset.specs.OptionText.{reached, itemsIn, ItemIs, textRefusal, optionText}
 use Rattle.journal.specs.Journal.{allVisited, AllFinish, journalOf}
 use Rattle.journal.specs.Rules.{fieldAt, rulesOf, IsField, Beside, HoldsJournal}
 use Rattle.journal.specs.Sitting.{Sitting, begunWith, next, answerTo, played, answeredIn, visitsIn}
@@ -31,9 +33,23 @@ use Rattle.journal.specs.Unrefused.{NothingRefused}
 -- ---- demand 1: refusals. That every call ends with an answer, whatever it is given, is that its function has a contract and asks for nothing
 
 pub record Demand1 : Type 0 where
-  -- a bad image gets the number that 01's table fixes for it: the definition of `Refused` shares no step with the check
+  -- a bad image gets the number that 01's table fixes for it. The definition of `Refused` is apart from the check: they share the byte accessors, the
+  -- table of integer formats and sizes, and the test of a field's settings
   pub number : (im : List ℕ) (sheet k : ℕ)
       → (((refusalOf im sheet ≡ k) × (k ≡ 0 → ⊥)) → Refused im sheet k) × (Refused im sheet k → (refusalOf im sheet ≡ k) × (k ≡ 0 → ⊥))
+  -- and each call its own numbers, in the order of 01: Open 1 first; Event 12, then 13; Draw 12, and 1 last; Option text 14
+  pub open-number : (im : List ℕ) (sheet columns lines : ℕ) → openRefusal im sheet columns lines ≡ (if shapeFits columns lines then refusalOf im sheet else 1)
+  pub event-number : (im : List ℕ) (sheet : ℕ) (s : Session) (e : ℕ)
+      → eventRefusal im sheet s e
+      ≡ (if refusalOf im sheet =? 0 then (if sessionFits im s then (if e ≤? second then 0 else 13) else 12) else refusalOf im sheet)
+  pub draw-number : (im : List ℕ) (sheet : ℕ) (s : Session) (n : ℕ)
+      → drawRefusal im sheet s n
+      ≡ (if refusalOf im sheet =? 0 then (if sessionFits im s then (if n =? s .columns * s .lines then 0 else 1) else 12) else refusalOf im sheet)
+  pub text-number : (im : List ℕ) (sheet place item : ℕ)
+      → textRefusal im sheet place item
+      ≡ (if refusalOf im sheet =? 0
+      then (if reached place (checked im sheet .fields) and (item <? itemsIn (fieldAt im place .kind)) then 0 else 14)
+      else refusalOf im sheet)
   -- a refused Open gives a closed session, and leaves the sheet
   pub open-closes : (im : List ℕ) (sheet columns lines : ℕ) → (openRefusal im sheet columns lines ≡ 0 → ⊥) → openAnswer im sheet columns lines .session ≡ closed
   pub open-keeps : (im sheet : List ℕ) (columns lines : ℕ) → (openRefusal im (length sheet) columns lines ≡ 0 → ⊥) → openSheet im sheet columns lines ≡ sheet
@@ -43,7 +59,7 @@ pub record Demand1 : Type 0 where
   pub event-returns : (im sheet : List ℕ) (s : Session) (e : ℕ) → (eventRefusal im (length sheet) s e ≡ 0 → ⊥)
       → eventStep im sheet s e ≡ refusedWith s (eventRefusal im (length sheet) s e)
   pub event-keeps : (im sheet : List ℕ) (s : Session) (e : ℕ) → (eventRefusal im (length sheet) s e ≡ 0 → ⊥) → eventSheet im sheet s e ≡ sheet
-  -- a refused Draw has no cursor, and leaves the picture
+  -- a refused Draw has no cursor, and leaves the picture; Draw and Option text are lent the sheet for reading only
   pub draw-nowhere : (im : List ℕ) (sheet : ℕ) (s : Session) (n : ℕ) → (drawRefusal im sheet s n ≡ 0 → ⊥) → drawCursor im sheet s n ≡ []
   pub draw-keeps : (im sheet : List ℕ) (s : Session) (picture : List ℕ) → (drawRefusal im (length sheet) s (length picture) ≡ 0 → ⊥)
       → drawnPicture im sheet s picture ≡ picture
@@ -55,6 +71,10 @@ pub record Demand1 : Type 0 where
 pub record Demand2 : Type 0 where
   -- an image is accepted, with a sheet of so many bytes, exactly when it is well formed
   pub accepted : (im : List ℕ) (sheet : ℕ) → (refusalOf im sheet ≡ 0 → WellFormed im sheet) × (WellFormed im sheet → refusalOf im sheet ≡ 0)
+  -- and Open accepts it with every shape that is allowed, and with no other
+  pub open-accepts : (im : List ℕ) (sheet columns lines : ℕ)
+      → (openRefusal im sheet columns lines ≡ 0 → (shapeFits columns lines ≡ true) × WellFormed im sheet)
+      × ((shapeFits columns lines ≡ true) × WellFormed im sheet → openRefusal im sheet columns lines ≡ 0)
   -- Open gives the top table at its first line, and writes each field's default and nothing else
   pub opens : (im : List ℕ) (sheet columns lines : ℕ) → openRefusal im sheet columns lines ≡ 0 → openAnswer im sheet columns lines .session ≡ opened columns lines
   pub defaults : (im sheet : List ℕ) (columns lines : ℕ) → openRefusal im (length sheet) columns lines ≡ 0
@@ -71,7 +91,9 @@ pub record Demand2 : Type 0 where
   pub draws : (im sheet : List ℕ) (s : Session) (picture : List ℕ) → drawRefusal im (length sheet) s (length picture) ≡ 0
       → drawnPicture im sheet s picture ≡ pictureOf im sheet s
   pub points : (im : List ℕ) (sheet : ℕ) (s : Session) (n : ℕ) → drawRefusal im sheet s n ≡ 0 → drawCursor im sheet s n ≡ editCursor im s
-  -- an option text is the item's own bytes, all of them in the image
+  -- an option text is given for each item of each option; it is the item's own bytes, all of them in the image
+  pub text-given : (im : List ℕ) (sheet : ℕ) (w : WellFormed im sheet) (f : Field) → List·Memᴰ f (w .fields) → (item : ℕ) → item < itemsIn (f .kind)
+      → textRefusal im sheet (f .image .0) item ≡ 0
   pub texts : (im : List ℕ) (sheet place item : ℕ) → textRefusal im sheet place item ≡ 0 → ItemIs im place item (optionText im sheet place item)
   -- a protected line opens its submenu only after its own digits
   pub protected : (im sheet : List ℕ) (columns lines : ℕ) (es : List ℕ) (e : ℕ) → let t = played im (begunWith im sheet columns lines) es in

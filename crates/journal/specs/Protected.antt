@@ -3,16 +3,19 @@
 use Prim.Native.Nat.{ℕ, _+_, _<_}
 use mathlib.Core.Path.{_≡_}
 use mathlib.Core.List.{List, [], _∷_, _++_, map}
+use lib.ListN.{getD}
 use Rattle.laws.specs.Choice.{if_then_else_, _=?_, _≤?_}
 use Rattle.cmf.specs.Readers.{textBytes}
 use Rattle.cmf.specs.declared.head.Head.{Head}
+use Rattle.session.specs.Steps.{isFlash}
+use Rattle.session.specs.Session.{noLevel}
 use Rattle.session.specs.Events.{lastDigitKey, right}
 use Rattle.session.specs.Fits.{cursorHead}
 use Rattle.session.specs.Passwords.{digit0}
 use Rattle.session.specs.declared.session.Level.{Level}
 use Rattle.session.specs.declared.step.Answer.{Answer}
 use Rattle.session.specs.declared.step.Answer.the-variants as answer
-use Rattle.journal.specs.Journal.{Answered, isFlash, ignored}
+use Rattle.journal.specs.Journal.{Answered, ignored}
 use Rattle.journal.specs.Sitting.{Sitting, next, played, answeredIn}
 
 -- ---- what was typed
@@ -51,12 +54,14 @@ abbrev pub StaysBelow : List ℕ → ℕ → Sitting → List ℕ → Type 0
 StaysBelow im k t [] = k < t .session .outer
 StaysBelow im k t (e ∷ es) = (k < t .session .outer) × StaysBelow im k (next im t e) es
 
--- of the events es, which follow on t: the first of them ended with the digits of l's cursor line and showed its submenu, and through the rest the
--- session stayed below level k, which is l
+-- of the events es, which follow on t: with the last of the first ones the digits of l's cursor line were typed, its submenu was shown, and level l went
+-- above it as level k; through the rest the session stayed below level k
 pub record Unlocked (im : List ℕ) (t : Sitting) (es : List ℕ) (k : ℕ) (l : Level) : Type 0 where
   pub before : List ℕ
   pub rest : List ℕ
   pub all : es ≡ before ++ rest
   pub digits : asDigits (typedSince (answeredIn im t before)) ≡ textBytes im (cursorHead im l .password)
   pub shown : played im t before .session .here .table .0 ≡ cursorHead im l .table
+  pub deep : played im t before .session .outer ≡ k + 1
+  pub level : getD (played im t before .session .above) k noLevel ≡ l
   pub stays : StaysBelow im k (played im t before) rest

@@ -5,12 +5,12 @@ use mathlib.Core.Path.{_≡_}
 use mathlib.Core.Bool.{true, false}
 use mathlib.Core.List.{List}
 use lib.ListN.{length}
+use Rattle.session.specs.Steps.{isRefused}
 use Rattle.session.specs.Events.{second}
 use Rattle.session.specs.Fits.{sessionFits}
 use Rattle.session.specs.declared.session.Session.{Session}
 use Rattle.handset.specs.Event.{eventRefusal}
 use Rattle.handset.specs.Draw.{drawRefusal}
-use Rattle.journal.specs.Journal.{isRefused}
 use Rattle.journal.specs.Sitting.{Sitting, answerTo}
 
 -- what is promised of a sitting on a display of this shape

@@ -1,5 +1,6 @@
 -- What an event makes of a session: the answers, and a session with something changed (01, The four calls and Keys).
 use Prim.Native.Nat.{ℕ, _+_}
+use mathlib.Core.Bool.{Bool, true, false}
 use mathlib.Core.List.{List}
 use Rattle.field.specs.declared.kind.ImagePlace.{ImagePlace}
 use Rattle.field.specs.declared.work.Work.{Work}
@@ -28,6 +29,21 @@ told answer.Flash = 1
 told (answer.Finished p) = finishedFrom + p .0
 told (answer.Fired p) = firedFrom + p .0
 told (answer.Refused n) = refusedFrom + n
+
+-- the answers that are told apart: a flash, a refusal
+abbrev pub isFlash : Answer → Bool
+isFlash answer.Taken = false
+isFlash answer.Flash = true
+isFlash (answer.Finished p) = false
+isFlash (answer.Fired p) = false
+isFlash (answer.Refused n) = false
+
+abbrev pub isRefused : Answer → Bool
+isRefused answer.Taken = false
+isRefused answer.Flash = false
+isRefused (answer.Finished p) = false
+isRefused (answer.Fired p) = false
+isRefused (answer.Refused n) = true
 
 -- 01's terms: the key was heeded; it could not be
 abbrev pub taken : Session → Stepped

@@ -14,7 +14,7 @@ use Rattle.field.specs.declared.record.Field.{Field}
 use Rattle.cmf.specs.Limits.{mostFields, longestSheet}
 use Rattle.cmf.specs.Layouts.{GoodSettings}
 use Rattle.cmf.specs.Grammar.{InSheet, Holds}
-use Rattle.cmf.specs.Forms.{Form, IsField, ComponentCut, ComponentWrong}
+use Rattle.cmf.specs.Forms.{Form, FieldIs, ComponentCut, ComponentWrong}
 use Rattle.cmf.specs.declared.component.Component.{Component}
 use Rattle.cmf.proofs.Forming.{room-gt}
 use Rattle.cmf.proofs.Rows.{Settings, View, view, same-field, no-field}
@@ -87,7 +87,7 @@ module _ (im : List ℕ) (sheet : ℕ) (fs : List Field) (at p : ℕ) where
   abbrev F : ℕ → Type 0
   F = ComponentFault im sheet fs at p
 
-  abbrev is : {b t : ℕ} {f : Field} → Form im p b t (f ∷ []) → IsField im p f
+  abbrev is : {b t : ℕ} {f : Field} → Form im p b t (f ∷ []) → FieldIs im p f
   is {b} {t} x = record { bytes = b; texts = t; form = x }
 
   -- row 7 does not apply
@@ -96,9 +96,9 @@ module _ (im : List ℕ) (sheet : ℕ) (fs : List Field) (at p : ℕ) where
     zeroed : at < p → byteAt im at ≡ 0
 
   part-least :
-      (k : ℕ) → (6 < k → ComponentCut im p → ⊥) → (7 < k → Right) → (8 < k → (f : Field) → IsField im p f → length fs < mostFields) →
-      (9 < k → (f : Field) → IsField im p f → GoodSettings f) → (10 < k → (f : Field) → IsField im p f → InSheet sheet f) →
-      (11 < k → (f : Field) → IsField im p f → Shares f fs → ⊥) → (j : ℕ) → F j → k ≤ j
+      (k : ℕ) → (6 < k → ComponentCut im p → ⊥) → (7 < k → Right) → (8 < k → (f : Field) → FieldIs im p f → length fs < mostFields) →
+      (9 < k → (f : Field) → FieldIs im p f → GoodSettings f) → (10 < k → (f : Field) → FieldIs im p f → InSheet sheet f) →
+      (11 < k → (f : Field) → FieldIs im p f → Shares f fs → ⊥) → (j : ℕ) → F j → k ≤ j
   part-least k a b c d e g j (ComponentFault.cut x) = not-below k 6 (λ l. a l x)
   part-least k a b c d e g j (ComponentFault.wrong x) = not-below k 7 (λ l. b l .right x)
   part-least k a b c d e g j (ComponentFault.padding h x) = not-below k 7 (λ l. x (b l .zeroed h))
@@ -144,9 +144,9 @@ module _ (im : List ℕ) (sheet : ℕ) (fs : List Field) (at p : ℕ) where
         (part-least 8 (λ _. u) (λ _. r) (λ l. absurd (omega arith)) (λ l. absurd (omega arith)) (λ l. absurd (omega arith)) (λ l. absurd (omega arith))))
         (λ m. let few : length fs < mostFields = omega (arith, leb-false mostFields (length (map entryOf fs)) m, n) in
         if-ind J (x .refusal =? 0)
-        (λ z. let good : (g : Field) → IsField im p g → GoodSettings g = λ g h. rw (same h) (is-good st (eqb-true _ 0 z)) in
+        (λ z. let good : (g : Field) → FieldIs im p g → GoodSettings g = λ g h. rw (same h) (is-good st (eqb-true _ 0 z)) in
         if-ind J (inSheet sheet (entryOf (x .field)))
-        (λ i. let inside : (g : Field) → IsField im p g → InSheet sheet g = λ g h. rw (same h) (sheet-reads sheet f (rw e at i)) in
+        (λ i. let inside : (g : Field) → FieldIs im p g → InSheet sheet g = λ g h. rw (same h) (sheet-reads sheet f (rw e at i)) in
         if-ind J (apartFrom (entryOf (x .field)) (map entryOf fs))
         (λ a. no-fault refl (λ j q. let l = part-least (j + 1) (λ _. u) (λ _. r) (λ _ _ _. few) (λ _. good) (λ _. inside)
         (λ _ g h. rw (same h) (shares-none f (rw e at a))) j q in omega arith))
@@ -161,7 +161,7 @@ module _ (im : List ℕ) (sheet : ℕ) (fs : List Field) (at p : ℕ) where
         n : length (map entryOf fs) ≡ length fs
         n = length-map fs entryOf
 
-        same : {g : Field} → IsField im p g → g ≡ f
+        same : {g : Field} → FieldIs im p g → g ≡ f
         same h = same-field im p (h .form) form
 
     part-by : {x : Component} → Place 0 at p → View im p x → J (takeComponent im sheet mostFields p x s)

@@ -10,7 +10,7 @@ use Rattle.field.specs.declared.record.Field.{Field}
 use Rattle.cmf.specs.Limits.{longestImage, deepestTable, mostLinesOfTable, mostLines, mostFields, longestSheet, prologBytes}
 use Rattle.cmf.specs.Layouts.{Text, Aligned, Component, Components, GoodSettings, lastBit}
 use Rattle.cmf.specs.Grammar.{Prolog, Head, Line, Table, Digits, Every, InSheet, Holds, Apart, isFirst, isLast, hasSubmenu, hasPassword, previousAt, passwordAt, nextLine, submenuTable}
-use Rattle.cmf.specs.Forms.{Cut, HeadCut, HeadWrong, IsField, ComponentCut, ComponentWrong}
+use Rattle.cmf.specs.Forms.{Cut, HeadCut, HeadWrong, FieldIs, ComponentCut, ComponentWrong}
 
 -- ---- 01, rows 2 to 5
 
@@ -82,14 +82,14 @@ pub data ComponentFault (im : List ℕ) (sheet : ℕ) (fs : List Field) (at p : 
   wrong : ComponentWrong im p → ComponentFault im sheet fs at p 7
   padding : at < p → (byteAt im at ≡ 0 → ⊥) → ComponentFault im sheet fs at p 7
   -- row 8: the 257th field
-  many : {f : Field} → IsField im p f → mostFields ≤ length fs → ComponentFault im sheet fs at p 8
+  many : {f : Field} → FieldIs im p f → mostFields ≤ length fs → ComponentFault im sheet fs at p 8
   -- row 9, R19: bad settings
-  settings : {f : Field} → IsField im p f → (GoodSettings f → ⊥) → ComponentFault im sheet fs at p 9
+  settings : {f : Field} → FieldIs im p f → (GoodSettings f → ⊥) → ComponentFault im sheet fs at p 9
   -- row 10, R18: the sheet is too long, or the field's bytes run past its end
-  long : {f : Field} → IsField im p f → longestSheet < sheet → ComponentFault im sheet fs at p 10
-  outside : {f : Field} → IsField im p f → sheet < f .sheet .0 + sizeOf f → ComponentFault im sheet fs at p 10
+  long : {f : Field} → FieldIs im p f → longestSheet < sheet → ComponentFault im sheet fs at p 10
+  outside : {f : Field} → FieldIs im p f → sheet < f .sheet .0 + sizeOf f → ComponentFault im sheet fs at p 10
   -- row 11
-  shared : {f : Field} → IsField im p f → Shares f fs → ComponentFault im sheet fs at p 11
+  shared : {f : Field} → FieldIs im p f → Shares f fs → ComponentFault im sheet fs at p 11
 
 -- 01's table: a number applies to a structure that has these fields and so many lines before it
 unfoldable pub Applies : List ℕ → ℕ → List Field → ℕ → Structure → ℕ → Type 0

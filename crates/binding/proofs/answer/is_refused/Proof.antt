@@ -1,5 +1,4 @@
 -- Each answer has its case.
-use Rattle.binding.specs.Answers.{isRefused}
 use borrow.Author.Needs.{needs}
 use Rattle.binding.proofs.answer.is_refused.Statement.{statement}
 use Rattle.binding.proofs.answer.is_refused.Tie as tie
@@ -20,23 +19,18 @@ enum-told-5 : tie.Need-enum-told-5
 enum-told-5 c = search needs
 
 returns : tie.Need-returns
-unfolding isRefused
 returns c = simp (c .enum-told .given .1)
 
 returns-2 : tie.Need-returns-2
-unfolding isRefused
 returns-2 c = simp (c .enum-told2 .given .1)
 
 returns-3 : tie.Need-returns-3
-unfolding isRefused
 returns-3 c = simp (c .enum-told3 .given .1)
 
 returns-4 : tie.Need-returns-4
-unfolding isRefused
 returns-4 c = simp (c .enum-told4 .given .1)
 
 returns-5 : tie.Need-returns-5
-unfolding isRefused
 returns-5 c = simp (c .enum-told5 .given .1)
 
 pub is-refused-spec : {M : Type 1} → statement M
