@@ -1,0 +1,73 @@
+//! The reference's side of bench/run: plays keys on an image as bench/drive.c does, `drive IMAGE KEYS ROUNDS`, and prints the same.
+
+use reference::calls::{draw, event, open};
+use reference::session::Answer;
+use std::time::Instant;
+use std::{fs, io};
+
+const REFUSED: u32 = 1 << 24;
+const COLUMNS: usize = 20;
+const LINES: usize = 4;
+
+#[derive(Default)]
+struct Clock {
+    nanoseconds: u128,
+    calls: u128,
+}
+
+impl Clock {
+    fn time<T>(&mut self, call: impl FnOnce() -> T) -> T {
+        let began = Instant::now();
+        let answer = call();
+        self.nanoseconds += began.elapsed().as_nanos();
+        self.calls += 1;
+        answer
+    }
+}
+
+fn number(answer: &Answer) -> u32 {
+    match *answer {
+        Answer::Taken => 0,
+        Answer::Flash => 1,
+        Answer::Finished(place) => (1 << 16) + place as u32,
+        Answer::Fired(place) => (1 << 17) + place as u32,
+        Answer::Refused(refusal) => REFUSED + u32::from(refusal),
+    }
+}
+
+fn refused(refusal: u8) -> u32 {
+    if refusal == 0 {
+        0
+    } else {
+        REFUSED + u32::from(refusal)
+    }
+}
+
+fn main() -> io::Result<()> {
+    let words: Vec<String> = std::env::args().collect();
+    let image = fs::read(&words[1])?;
+    let keys = fs::read(&words[2])?;
+    let rounds: usize = words[3].parse().unwrap_or(1);
+    let mut sheet = vec![0; 4096];
+    let mut picture = vec![0; COLUMNS * LINES];
+    let mut clocks = [Clock::default(), Clock::default(), Clock::default()];
+    let mut sum = 0u32;
+    let mut add = |number: u32| sum = sum.wrapping_mul(31).wrapping_add(number);
+    for _ in 0..rounds {
+        let (refusal, mut session) = clocks[0].time(|| open(&image, &mut sheet, COLUMNS, LINES));
+        add(refused(refusal));
+        for key in &keys {
+            let Some(pressed) = b"0123456789.udlres".iter().position(|letter| letter == key) else { continue };
+            let (next, answer) = clocks[1].time(|| event(&image, &mut sheet, &session, pressed));
+            session = next;
+            add(number(&answer));
+            let (refusal, cursor) = clocks[2].time(|| draw(&image, &sheet, &session, &mut picture));
+            add(cursor.map_or(refused(refusal), |(row, column)| (1 << 16) + 256 * row as u32 + column as u32));
+            picture.iter().for_each(|&byte| add(u32::from(byte)));
+        }
+    }
+    sheet.iter().for_each(|&byte| add(u32::from(byte)));
+    let [o, e, d] = clocks.map(|clock| format!("{} {}", clock.calls, clock.nanoseconds / clock.calls.max(1)));
+    println!("open {o} event {e} draw {d} sum {sum:08x}");
+    Ok(())
+}

@@ -1,0 +1,193 @@
+//! The executor's C library (handset.h) as something that plays cases. Only with the feature `library`.
+
+use crate::layout;
+use crate::session::Answer;
+use crate::vectors::{Executor, Outcome, Step, UNDRAWN};
+
+/// HANDSET_SESSION_BYTES of the header, as build.rs read it.
+pub const SESSION_BYTES: &str = env!("HANDSET_SESSION_BYTES");
+/// The library that this program was built with.
+pub const LINKED: &str = env!("HANDSET_LIB");
+
+const REFUSED: u32 = 1 << 24;
+const REFUSED_TEXT: u64 = 1 << 32;
+const FINISHED: u32 = 1 << 16;
+const FIRED: u32 = 1 << 17;
+/// Stands for a number that the header gives no meaning.
+const NO_ANSWER: u8 = u8::MAX;
+
+extern "C" {
+    fn handset_open(
+        image: *const u8,
+        image_len: usize,
+        sheet: *mut u8,
+        sheet_len: usize,
+        columns: u8,
+        lines: u8,
+        session: *mut u8,
+        session_len: usize,
+    ) -> u32;
+    fn handset_event(
+        image: *const u8,
+        image_len: usize,
+        sheet: *mut u8,
+        sheet_len: usize,
+        session: *mut u8,
+        session_len: usize,
+        event: u8,
+    ) -> u32;
+    fn handset_draw(
+        image: *const u8,
+        image_len: usize,
+        sheet: *const u8,
+        sheet_len: usize,
+        session: *const u8,
+        session_len: usize,
+        picture: *mut u8,
+        picture_len: usize,
+    ) -> u32;
+    fn handset_option_text(
+        image: *const u8,
+        image_len: usize,
+        sheet: *const u8,
+        sheet_len: usize,
+        place: usize,
+        item: usize,
+    ) -> u64;
+}
+
+/// The library with what is lent to it.
+pub struct Library {
+    image: Vec<u8>,
+    sheet: Vec<u8>,
+    pub session: Vec<u8>,
+    /// Set when a refused event changed the session's bytes.
+    pub changed_when_refused: bool,
+}
+
+impl Library {
+    pub fn new() -> Library {
+        let bytes = SESSION_BYTES.parse().expect("a number");
+        assert!(!layout::IS_DOCUMENTED || layout::LAYOUT.bytes == bytes, "the layout is not that of the header");
+        Library { image: vec![], sheet: vec![], session: vec![0; bytes], changed_when_refused: false }
+    }
+
+    fn open(&mut self, columns: usize, lines: usize) -> Outcome {
+        // SAFETY: each pointer goes with its own length, and nothing else uses the buffers meanwhile.
+        let answer = unsafe {
+            handset_open(
+                self.image.as_ptr(),
+                self.image.len(),
+                self.sheet.as_mut_ptr(),
+                self.sheet.len(),
+                columns as u8,
+                lines as u8,
+                self.session.as_mut_ptr(),
+                self.session.len(),
+            )
+        };
+        Outcome::Opened(refusal_of(answer))
+    }
+
+    fn event(&mut self, event: usize) -> Outcome {
+        let before = self.session.clone();
+        // SAFETY: as in `open`.
+        let number = unsafe {
+            handset_event(
+                self.image.as_ptr(),
+                self.image.len(),
+                self.sheet.as_mut_ptr(),
+                self.sheet.len(),
+                self.session.as_mut_ptr(),
+                self.session.len(),
+                event as u8,
+            )
+        };
+        let answer = answer_of(number);
+        self.changed_when_refused = matches!(answer, Answer::Refused(_)) && self.session != before;
+        Outcome::Answered(answer)
+    }
+
+    fn draw(&mut self, length: usize) -> Outcome {
+        let mut picture = vec![UNDRAWN; length];
+        // SAFETY: as in `open`.
+        let number = unsafe {
+            handset_draw(
+                self.image.as_ptr(),
+                self.image.len(),
+                self.sheet.as_ptr(),
+                self.sheet.len(),
+                self.session.as_ptr(),
+                self.session.len(),
+                picture.as_mut_ptr(),
+                picture.len(),
+            )
+        };
+        let cursor = (FINISHED..REFUSED).contains(&number).then(|| {
+            let place = (number - FINISHED) as usize;
+            (place / 256, place % 256)
+        });
+        Outcome::Drawn(number.saturating_sub(REFUSED) as u8, picture, cursor)
+    }
+
+    fn text(&self, place: usize, item: usize) -> Outcome {
+        // SAFETY: as in `open`.
+        let number = unsafe {
+            handset_option_text(self.image.as_ptr(), self.image.len(), self.sheet.as_ptr(), self.sheet.len(), place, item)
+        };
+        if number >= REFUSED_TEXT {
+            return Outcome::Text((number - REFUSED_TEXT) as u8, 0..0);
+        }
+        let start = (number / 65_536) as usize;
+        Outcome::Text(0, start..start + (number % 65_536) as usize)
+    }
+}
+
+impl Default for Library {
+    fn default() -> Self {
+        Library::new()
+    }
+}
+
+/// 0, or 16,777,216 + refusal.
+fn refusal_of(number: u32) -> u8 {
+    match number {
+        0 => 0,
+        REFUSED.. => (number - REFUSED) as u8,
+        _ => NO_ANSWER,
+    }
+}
+
+fn answer_of(number: u32) -> Answer {
+    match number {
+        0 => Answer::Taken,
+        1 => Answer::Flash,
+        FINISHED..FIRED => Answer::Finished((number - FINISHED) as usize),
+        FIRED..REFUSED => Answer::Fired((number - FIRED) as usize),
+        REFUSED.. => Answer::Refused((number - REFUSED) as u8),
+        _ => Answer::Refused(NO_ANSWER),
+    }
+}
+
+impl Executor for Library {
+    fn play(&mut self, step: &Step) -> Outcome {
+        match step {
+            Step::Image(bytes) => self.image.clone_from(bytes),
+            Step::Sheet(bytes) => self.sheet.clone_from(bytes),
+            Step::Session(bytes) => self.session.clone_from(bytes),
+            Step::Open { columns, lines } => return self.open(*columns, *lines),
+            Step::Event(event) => return self.event(*event),
+            Step::Draw(length) => return self.draw(*length),
+            Step::Text { place, item } => return self.text(*place, *item),
+        }
+        Outcome::Lent
+    }
+
+    fn image(&self) -> &[u8] {
+        &self.image
+    }
+
+    fn sheet(&self) -> &[u8] {
+        &self.sheet
+    }
+}
