@@ -128,9 +128,10 @@ open-well : (im : List ℕ) (sheet columns lines : ℕ)
     × ((shapeFits columns lines ≡ true) × WellFormed im sheet → openRefusal im sheet columns lines ≡ 0)
 unfolding openRefusal
 open-well im sheet columns lines =
-    let a = accepted-exactly-when-well-formed im sheet in
-    (λ z. let n = none-before _ _ z in (none-unless 1 (shapeFits columns lines) (λ e. omega arith) (n .0), a .0 (n .1)),
-    λ h. next-given _ _ (holding 1 (shapeFits columns lines) (h .0)) ∙ a .1 (h .1))
+    let a = accepted-exactly-when-well-formed im sheet in (
+      λ z. let n = none-before _ _ z in (none-unless 1 (shapeFits columns lines) (λ e. omega arith) (n .0), a .0 (n .1)),
+      λ h. next-given _ _ (holding 1 (shapeFits columns lines) (h .0)) ∙ a .1 (h .1),
+    )
 
 -- a field of the image is reached at its place
 field-reached : (f : Field) (fs : List Field) → List·Memᴰ f fs → reached (f .image .0) (map entryOf fs) ≡ true
