@@ -84,19 +84,18 @@ fn print_last(index: &[usize], fields: usize) {
     }
 }
 
-// Where the last good thing of the top table ended; 0 where its title is at fault.
+// Where the last thing that stands ended; 0 where the top table's title is at fault.
 fn print_end(at: usize) {
     if at == 0 {
         say(b"the title of the top table is at fault\n");
         return;
     }
-    say(b"the last good thing of the top table ends at image place ");
+    say(b"the last good thing ends at image place ");
     say_number(at);
-    say(b": the fault comes next, or is in the submenu of the line that ends there\n");
+    say(b": the fault comes next\n");
 }
 
-// What the check knows of a fault that the walk found. It does not name the fault's own place: it counts the line heads and fields
-// that stand, and where a submenu is at fault it says where the line of the top table ends that leads there.
+// What the check knows of a fault that the walk found: how many line heads and fields stand, and where the last thing before the fault ended.
 pub fn print_reach(image: &[u8], sheet: usize, refusal: u8) {
     if refusal < WALK {
         return;

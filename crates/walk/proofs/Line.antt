@@ -1,12 +1,12 @@
 -- A line with its components and its submenu: the walk takes it exactly where the grammar has it. What the walk does in the submenu and what
 -- the grammar says of it are parameters.
 use Prim.Native.Nat.{ℕ, _+_, _≤_, _<_}
-use mathlib.Core.Path.{_≡_, ap, _∙_, subst}
+use mathlib.Core.Path.{_≡_, refl, ap, _∙_, subst}
 use mathlib.Core.Bool.{true, false}
 use mathlib.Core.List.{List, _++_}
 use native.Mathlib.Omega.{arith}
 use lib.ListN.{length}
-use Rattle.laws.proofs.Cases.{by-test, if-true, if-false}
+use Rattle.laws.proofs.Cases.{by-test, if-eq, if-true, if-false}
 use Rattle.field.specs.declared.record.Field.{Field}
 use Rattle.cmf.specs.Limits.{mostLinesOfTable, mostLines}
 use Rattle.cmf.specs.Readers.{evenFrom, headAt}
@@ -70,7 +70,9 @@ module _ (im : List ℕ) (A : Agree im) (sheet most : ℕ) where
     submenu-goes : (p at lines : ℕ) (es es′ : List Entry) (k : ℕ) → headAt im p .submenu ≡ true → Came (submenu (headAt im p .table) (stood at lines es)) k es′ →
         onSubmenu im sheet most submenu (headAt im p) (stood at lines es) ≡ stood at k es′
     unfolding onSubmenu
-    submenu-goes p at lines es es′ k e c = if-true _ _ e ∙ ap (λ (s : State). with s (behind (s .walk) at)) (c .is)
+    submenu-goes p at lines es es′ k e c =
+        if-true _ _ e ∙ ap (λ (s : State). with s (behind (s .walk) at)) (c .is)
+        ∙ ap (λ (x : ℕ). stood x k es′) (if-eq 0 0 at (c .end) refl)
 
     submenu-fine :
         (p : ℕ) (s : State) → headAt im p .submenu ≡ true → fine (onSubmenu im sheet most submenu (headAt im p) s) ≡ true → fine (submenu (headAt im p .table) s) ≡ true

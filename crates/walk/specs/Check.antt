@@ -39,9 +39,9 @@ refused w k = record { refusal = k; at = w .at; lines = w .lines; fields = w .fi
 abbrev pub passed : Walk → ℕ → Walk
 passed w at = record { refusal = 0; at = at; lines = w .lines; fields = w .fields }
 
--- the walk goes on behind a line that ends at `at`
+-- the walk goes on behind a line that ends at `at`; where it is refused it stays where the last thing that stands ended
 abbrev pub behind : Walk → ℕ → Walk
-behind w at = record { refusal = w .refusal; at = at; lines = w .lines; fields = w .fields }
+behind w at = record { refusal = w .refusal; at = if w .refusal =? 0 then at else w .at; lines = w .lines; fields = w .fields }
 
 -- the second, unless the first is a refusal
 unfoldable pub andThen : State → State → State

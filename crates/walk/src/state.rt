@@ -2,7 +2,7 @@
 ghost use mathlib.Core.Path.{_≡_};
 ghost use Rattle.walk.specs.Check.{refused, passed, behind};
 
-// The refusal number, 0 for none yet; where the last thing read ended; how many lines and fields were reached.
+// The refusal number, 0 for none yet; where the last thing that stands ended; how many lines and fields stand.
 pub struct Walk {
     pub refusal: u8,
     pub at: usize,
@@ -34,10 +34,13 @@ impl Walk {
         }
     }
 
-    // On behind a line that ends at a place.
+    // On behind a line that ends at a place; a refused walk stays where it is.
     pub(crate) fn behind(self, at: usize) -> Self
         ensures { λ r. ⌜ r ≡ behind self at ⌝ }
     {
+        if self.refusal != 0 {
+            return self;
+        }
         Walk {
             refusal: self.refusal,
             at,
