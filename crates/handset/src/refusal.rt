@@ -2,7 +2,7 @@
 ghost use mathlib.Core.Path.{_≡_};
 ghost use Rattle.handset.specs.Refusals.{sessionRefusal};
 use session::session::Session;
-use walk::check::check;
+use walk::accept::refusal_of;
 
 // A display of a shape that the paper does not allow.
 pub const NO_SHAPE: u8 = 1;
@@ -23,8 +23,7 @@ pub const NO_ITEM: u8 = 14;
 pub fn session_refusal(image: &[u8], sheet: usize, session: Session) -> u8
     ensures { λ r. ⌜ r ≡ sessionRefusal (now (image .entry)) sheet session ⌝ }
 {
-    let c = check(image, sheet);
-    let refusal = c.walk.refusal;
+    let refusal = refusal_of(image, sheet);
     if refusal != 0 {
         return refusal;
     }

@@ -20,3 +20,7 @@ pub mod PrologJudging
 pub mod Faulty
 pub mod Ranges
 pub mod FaultCases
+pub mod Marks
+pub mod Pieces
+pub mod Accepting
+pub mod AcceptingTables

@@ -1,3 +1,4 @@
 pub mod Check
 pub mod Index
 pub mod Faults
+pub mod Accept

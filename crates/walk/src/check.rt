@@ -30,7 +30,7 @@ pub struct Checked {
 }
 
 // Whether what stands at a place follows what ended before it at once, or behind one zero byte.
-fn is_padded(image: &[u8], at: usize, place: usize) -> bool
+pub(crate) fn is_padded(image: &[u8], at: usize, place: usize) -> bool
     ensures { λ r. ⌜ r ≡ padded (now (image .entry)) at place ⌝ }
 {
     if at == place {
@@ -49,7 +49,7 @@ fn take_title(t: Title, w: Walk) -> Walk
 }
 
 // Whether a line's first mark and pointer back agree with the walk; n lines of its table come before it.
-fn is_agreeing(n: usize, before: usize, p: usize, h: Head) -> bool
+pub(crate) fn is_agreeing(n: usize, before: usize, p: usize, h: Head) -> bool
     ensures { λ r. ⌜ r ≡ agrees n before p h ⌝ }
 {
     if n == 0 {
@@ -260,7 +260,7 @@ fn check_table(
 }
 
 // The prolog's refusal: 2 to 5, 0 for none.
-fn prolog_code(image: &[u8]) -> u8
+pub(crate) fn prolog_code(image: &[u8]) -> u8
     ensures { λ r. ⌜ r ≡ prologCode (now (image .entry)) ⌝ }
 {
     if image.len() < Image::PROLOG {

@@ -1,0 +1,112 @@
+-- The usual pieces of an image, recognised by a few tests: constant strings, options, and the heads of later lines.
+use Prim.Native.Nat.{ℕ, zero, suc, _+_, _-_, _*_, _/_, _%_, _≤_, _<_, max}
+use mathlib.Core.Path.{_≡_, refl, sym}
+use mathlib.Core.Bool.{true}
+use mathlib.Core.List.{List, [], _∷_}
+use native.Mathlib.Omega.{arith}
+use lib.ListN.{length, take, drop}
+use borrow.Author.Tests.{le-leb}
+use Rattle.laws.specs.Choice.{_and_}
+use Rattle.laws.specs.Bytes.{byteAt, wordAt}
+use Rattle.laws.specs.Overwrite.{fit}
+use Rattle.laws.specs.Digits.{fromLow, numberFrom}
+use Rattle.laws.proofs.Cases.{and-i}
+use Rattle.field.specs.Table.{profileOf, cellOf}
+use Rattle.field.specs.Values.{numberOf, valueAt}
+use Rattle.field.specs.Cells.{cellsOf, inSpan, within, legalTo, legal, inRange}
+use Rattle.field.specs.Settings.{goodSettings, settingsFit}
+use Rattle.field.specs.declared.kind.Kind.the-variants.{Option}
+use Rattle.cmf.specs.Limits.{prologBytes}
+use Rattle.cmf.specs.Layouts.{bit, Texts, Component, optionAt}
+use Rattle.cmf.specs.Grammar.{Head, Password, isFirst, isLast, isDynamic, hasSubmenu, submenuTable}
+
+-- the bits of a tag that is 0 or 2
+record Plain (t : ℕ) : Type 0 where
+  first : bit 0 t ≡ 0
+  last : 2 * bit 1 t ≡ t
+  dynamic : bit 2 t ≡ 0
+  submenu : bit 3 t ≡ 0
+  password : bit 4 t ≡ 0
+
+plain-bits : (t : ℕ) → t ≤ 2 → t % 2 ≡ 0 → Plain t
+plain-bits t few even = record { first = omega arith; last = omega arith; dynamic = omega arith; submenu = omega arith; password = omega arith }
+
+-- where the pointer back stands, and the end
+plain-places :
+    (p t end first last dynamic submenu : ℕ) → t ≤ 2 → first ≡ 0 → 2 * last ≡ t → dynamic ≡ 0 → submenu ≡ 0 → end ≡ p + 5 - t →
+    (p + 1 + 2 * (1 - last) ≡ end - 2) × (p + 1 + 2 * (1 - last) + 2 * (1 - first) + 2 * dynamic + 2 * submenu ≡ end)
+plain-places p t end first last dynamic submenu few f l d s e = (omega arith, omega arith)
+
+module _ (im : List ℕ) where
+  -- ---- a constant string
+
+  pub string-is : (at end : ℕ) → byteAt im at % 64 ≡ 0x15 → end ≡ at + 2 + byteAt im (at + 1) → end ≤ length im → Component im at end []
+  string-is at end t e h = Component.constant (omega arith) (omega arith) (record { ends = omega arith; inside = h })
+
+  -- ---- texts that fill the bytes up to an end: what is left of them makes the whole
+
+  pub record Filling (from end count at left most : ℕ) : Type 0 where
+    pub fill : at ≤ end → (longest : ℕ) → Texts im left at end longest → Texts im count from end (max most longest)
+
+  pub filling-start : (from end count : ℕ) → Filling from end count from count 0
+  filling-start from end count = record { fill = λ _ l t. let z : max 0 l ≡ l = omega arith in rw z t }
+
+  pub filling-next :
+      (from end count at left most next : ℕ) → end ≤ length im → 1 ≤ left → next ≡ max most (byteAt im at) → Filling from end count at left most →
+      Filling from end count (at + 1 + byteAt im at) (left - 1) next
+  filling-next from end count at left most next i h e f = record {
+    fill = λ a l t.
+        let z : left ≡ suc (left - 1) = omega arith in
+        let m : max next l ≡ max most (max (byteAt im at) l) = omega arith in
+        rw m (f .fill (omega arith) (max (byteAt im at) l)
+        (rw z (Texts.more (at + 1 + byteAt im at) (record { ends = refl; inside = omega arith }) t)));
+  }
+
+  pub filled : (from end count at left most longest : ℕ) → at ≡ end → left ≡ 0 → most ≡ longest → Filling from end count at left most → Texts im count from end longest
+  filled from end count at left most longest a z m f =
+      let q : longest ≡ max most 0 = omega arith in
+      rw q (f .fill (omega arith) 0 (rw (z, a) Texts.none))
+
+  -- ---- an option
+
+  one-byte : (s : List ℕ) (at : ℕ) → at < length s → take 1 (drop at s) ≡ byteAt s at ∷ []
+  one-byte (x ∷ s) zero h = refl
+  one-byte (x ∷ s) (suc at) h = one-byte s at (omega arith)
+  one-byte [] at h = absurd (omega arith)
+
+  -- a default below the count of items is in range
+  option-fits : (n w at : ℕ) → at < length im → byteAt im at < n → settingsFit (Option n w) (valueAt at 1 im) ≡ true
+  unfolding settingsFit goodSettings inRange inSpan legal legalTo within cellsOf cellOf profileOf numberOf fromLow numberFrom fit _and_
+  option-fits n w at i h =
+      rw (one-byte im at i) (and-i (le-leb 1 n (omega arith)) (and-i (le-leb 0 (0 + byteAt im at) (omega arith)) (le-leb (0 + byteAt im at) (n - 1) (omega arith))))
+
+  pub option-is :
+      (at end : ℕ) → byteAt im at % 32 ≡ 0x14 → at + 10 ≤ length im → byteAt im (at + 9) < byteAt im (at + 7) → end ≡ at + byteAt im (at + 6) →
+      Texts im (byteAt im (at + 7)) (at + 10) end (byteAt im (at + 8)) → Component im at end (optionAt im at ∷ [])
+  unfolding profileOf
+  option-is at end t i d e ts =
+      Component.option (omega arith) (record { inside = i; items = ts; counted = e })
+      (record { good = option-fits (byteAt im (at + 7)) (byteAt im (at + 8)) (at + 9) (omega arith) d })
+
+  -- ---- the head of a later line that has no mark but that of the last
+
+  pub plain-is :
+      (n before p end : ℕ) → 0 < n → byteAt im p ≤ 2 → byteAt im p % 2 ≡ 0 → end ≡ p + 5 - byteAt im p → end ≤ length im → before ≤ p →
+      wordAt im (end - 2) ≡ p - before → Head im n before p end
+  plain-is n before p end z few even e i b w =
+      let t = plain-bits (byteAt im p) few even in
+      let q = plain-places p (byteAt im p) end (isFirst im p) (isLast im p) (isDynamic im p) (hasSubmenu im p) few (t .first) (t .last) (t .dynamic) (t .submenu) e in
+      let v : before + wordAt im (end - 2) ≡ p = omega arith in
+      record {
+        inside = rw (q .1) i;
+        password = Password.none (t .password) (sym (q .1));
+        tag = omega arith;
+        protects = rw (t .password, t .submenu) (omega arith);
+        first = λ f. absurd (omega arith);
+        later = λ _. t .first;
+        previous = λ _. rw (q .0) v;
+      }
+
+  -- where a submenu's table stands
+  pub submenu-is : (p : ℕ) → prologBytes + wordAt im (p + 1 + 2 * (1 - byteAt im p / 2 % 2) + 2 * (1 - byteAt im p % 2) + 2 * (byteAt im p / 4 % 2)) ≡ submenuTable im p
+  submenu-is p = let z : byteAt im p % 2 ≡ isFirst im p = omega arith in rw z

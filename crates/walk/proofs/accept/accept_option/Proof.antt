@@ -1,0 +1,63 @@
+-- An option of the grammar whose byte is claimed.
+use Rattle.walk.proofs.Stood.{clash}
+use Rattle.walk.proofs.Accepting.{option-passes}
+use native.Mathlib.Omega.{arith}
+use borrow.Author.Needs.{needs}
+use Rattle.walk.proofs.accept.accept_option.Statement.{statement}
+use Rattle.walk.proofs.accept.accept_option.Tie as tie
+use Rattle.walk.proofs.accept.accept_option.Reads as reads
+use Rattle.walk.proofs.accept.accept_option.Lts as lts
+use Rattle.walk.proofs.accept.Stage.doubt.Reads as doubt-reads
+use Rattle.walk.proofs.accept.claim.Reads as claim-reads
+use Rattle.walk.proofs.accept.option_end.Reads as option-end-reads
+use Rattle.walk.proofs.accept.word.Reads as word-reads
+
+-- src/accept.rt:146:9
+option-end-requires : tie.Need-option-end-requires
+option-end-requires c κs = search needs
+
+-- src/accept.rt:148:9
+doubt-requires : tie.Need-doubt-requires
+doubt-requires c κs = search needs
+
+-- src/accept.rt:148:9
+returns : tie.Need-returns
+returns c = λ e. clash e (c .doubt .ensures)
+
+-- src/accept.rt:150:47
+add-word : tie.Need-add-word
+add-word c = search needs
+
+-- src/accept.rt:150:35
+word-requires : tie.Need-word-requires
+word-requires c κs = omega (arith, c .before .before .option-end .ensures (omega arith) .0)
+
+-- src/accept.rt:150:9
+claim-requires : tie.Need-claim-requires
+claim-requires c κs = search needs
+
+-- src/accept.rt:155:17
+add-t10 : tie.Need-add-t10
+add-t10 c = search needs
+
+-- src/accept.rt:142:1
+same-length : tie.Need-same-length
+same-length c = search needs
+
+-- src/accept.rt:142:1
+returns-2 : tie.Need-returns-2
+returns-2 c = λ e. option-passes _ _ (c .before .before .before .before .before .before .before .option-end .ensures (omega arith) .1) (c .before .before .before .before .word .ensures .0) (c .before .before .before .before .before .before .before .before .before .before .pre .1 .1) (c .before .before .before .claim .ensures e)
+
+pub accept-option-spec : {M : Type 1} → statement M
+accept-option-spec =
+    tie.close
+    (tie.spec
+    option-end-requires
+    doubt-requires
+    returns
+    add-word
+    word-requires
+    claim-requires
+    add-t10
+    same-length
+    returns-2)
