@@ -1,8 +1,8 @@
--- Numbers in bytes: the turns of the loops that read and write one, and that what was written is read back.
+-- Numbers in bytes: four of them read and written at once, and the turns of the loops that read and write several numbers.
 use Prim.Native.Nat.{ℕ, zero, suc, _+_, _-_, _*_, _/_, _%_, _^_, _≤_, _<_}
 use mathlib.Core.Path.{_≡_, refl, sym, ap, _∙_}
-use mathlib.Core.List.{List, [], _∷_}
-use native.Mathlib.Nat.{pow-suc, pow-le-pow-right, lt-of-lt-of-le}
+use mathlib.Core.List.{List, [], _∷_, _++_}
+use native.Mathlib.Nat.{div-div-eq-div-mul, mod-eq-of-lt, zero-add, suc-add, mul-assoc, pow-succ', mul-add-div, mul-add-mod-self-left, div-add-mod}
 use native.Mathlib.Omega.{arith}
 use native.Mathlib.Numerals.{add-one}
 use lib.ListN.{length, getD, set, drop, drop-of-length-le}
@@ -11,52 +11,90 @@ use Rattle.laws.specs.Bytes.{byteAt}
 use Rattle.laws.specs.Digits.{digitsOf, lowFirst}
 use Rattle.laws.specs.Overwrite.{over}
 use Rattle.laws.proofs.Numerals.{low-suc, length-low}
-use Rattle.laws.proofs.Overwriting.{over-next, over-nil, over-cons, over-out, over-all}
+use Rattle.laws.proofs.Overwriting.{over-next, over-nil, over-cons, over-all}
 use Rattle.binding.specs.Numbers.{numberAt, numbersBytes, numbersFrom}
 
--- ---- reading, from the highest byte down
+-- ---- reading, four bytes at once
 
-module _ (bs : List ℕ) (at count left n b : ℕ) (some : 0 < left) (few : left ≤ count) where
-  -- one byte more below those that are read
-  pub number-turn : n ≡ numberAt (count - left) (at + left) bs → b ≡ byteAt bs (at + (left - 1))
-      → 256 * n + b ≡ numberAt (count - (left - 1)) (at + (left - 1)) bs
-  unfolding numberAt
-  number-turn p q =
-      let e : count - (left - 1) ≡ suc (count - left) = omega arith in
-      let f : at + (left - 1) + 1 ≡ at + left = omega arith in
-      rw (e, f, ← p, ← q) (omega arith)
+-- the four lowest bytes of a number, and the rest
+four-more : (n : ℕ) (bs : List ℕ) (at : ℕ)
+    → numberAt (suc (suc (suc (suc n)))) at bs
+    ≡ byteAt bs at + 256 * byteAt bs (at + 1) + 65536 * byteAt bs (at + 2) + 16777216 * byteAt bs (at + 3) + 4294967296 * numberAt n (at + 4) bs
+unfolding numberAt
+four-more n bs at =
+    let two : at + 1 + 1 ≡ at + 2 = omega arith in
+    let three : at + 2 + 1 ≡ at + 3 = omega arith in
+    let four : at + 3 + 1 ≡ at + 4 = omega arith in
+    rw (two, three, four) (omega arith)
 
-  pub number-grows : n < 256 ^ (count - left) → b < 256 → 256 * n + b < 256 ^ (count - (left - 1))
-  number-grows p q =
-      let e : count - (left - 1) ≡ suc (count - left) = omega arith in
-      rw (e, pow-suc) (omega arith)
+-- one byte, four, and eight as two fours
+pub one-read : (bs : List ℕ) (at : ℕ) → byteAt bs at ≡ numberAt 1 at bs
+unfolding numberAt
+one-read bs at = omega arith
 
-  pub number-fits : count ≤ 8 → n < 256 ^ (count - left) → n < 72057594037927936
-  number-fits h p =
-      let z : 0 < 256 = omega arith in
-      let k : count - left ≤ 7 = omega arith in
-      lt-of-lt-of-le p (pow-le-pow-right z k)
+pub four-read : (bs : List ℕ) (at : ℕ)
+    → byteAt bs at + 256 * byteAt bs (at + 1) + 65536 * byteAt bs (at + 2) + 16777216 * byteAt bs (at + 3) ≡ numberAt 4 at bs
+unfolding numberAt
+four-read bs at = omega (arith, four-more 0 bs at)
 
--- ---- writing, from the lowest byte up
+pub eight-read : (bs : List ℕ) (at : ℕ) → numberAt 4 at bs + 4294967296 * numberAt 4 (at + 4) bs ≡ numberAt 8 at bs
+eight-read bs at = omega (arith, four-more 4 bs at, four-read bs at)
 
--- one byte written at its place, the others behind it
-pub low-turn : (d t : List ℕ) (at count i x : ℕ) → i < count → t ≡ over d (at + i) (x % 256 ∷ [])
-    → over t (at + (i + 1)) (lowFirst (count - (i + 1)) (x / 256)) ≡ over d (at + i) (lowFirst (count - i) x)
-low-turn d t at count i x h e =
-    let k : count - i ≡ suc (count - (i + 1)) = omega arith in
-    let p : at + (i + 1) ≡ at + i + 1 = omega arith in
-    rw (k, low-suc (count - (i + 1)) x, e, p) (over-next d (at + i) (x % 256 ∷ []) (lowFirst (count - (i + 1)) (x / 256)))
+-- ---- writing, four bytes at once
 
-pub low-done : (d : List ℕ) (at count i x : ℕ) → count ≤ i → over d (at + i) (lowFirst (count - i) x) ≡ d
+-- a store is the first element written, inside and beyond the end
+byte-first : (d : List ℕ) (at x : ℕ) (s : List ℕ) → over (set d at x) (suc at) s ≡ over d at (x ∷ s)
+unfolding over
+byte-first [] at x s = refl
+byte-first (y ∷ d) zero x s = refl
+byte-first (y ∷ d) (suc at) x s = ap (λ (r : List ℕ). y ∷ r) (byte-first d at x s)
+
+pub byte-put : (d : List ℕ) (at x : ℕ) → set d at x ≡ over d at (x ∷ [])
+byte-put d at x = sym (over-nil (set d at x) (suc at)) ∙ byte-first d at x []
+
+-- a byte before others, and four
+byte-before : (d : List ℕ) (at p x : ℕ) (s : List ℕ) → p ≡ at + 1 → over (set d at x) p s ≡ over d at (x ∷ s)
+byte-before d at p x s e = rw (e, add-one) (byte-first d at x s)
+
+four-put : (d : List ℕ) (at a b c e : ℕ) → set (set (set (set d at a) (at + 1) b) (at + 2) c) (at + 3) e ≡ over d at (a ∷ b ∷ c ∷ e ∷ [])
+four-put d at a b c e =
+    byte-put (set (set (set d at a) (at + 1) b) (at + 2) c) (at + 3) e
+    ∙ byte-before (set (set d at a) (at + 1) b) (at + 2) (at + 3) c (e ∷ []) (omega arith)
+    ∙ byte-before (set d at a) (at + 1) (at + 2) b (c ∷ e ∷ []) (omega arith)
+    ∙ byte-before d at (at + 1) a (b ∷ c ∷ e ∷ []) refl
+
+-- a number's bytes, one and four
+pub one-low : (x : ℕ) → x < 256 → x ∷ [] ≡ lowFirst 1 x
 unfolding lowFirst digitsOf
-low-done d at count i x h = let z : count - i ≡ 0 = omega arith in rw z (over-nil d (at + i))
+one-low x h = rw (low-suc 0 x, mod-eq-of-lt h)
 
--- one byte, inside and beyond the end
-pub byte-put : (d : List ℕ) (at x : ℕ) → at < length d → set d at x ≡ over d at (x ∷ [])
-byte-put d at x h = sym (over-nil (set d at x) (suc at)) ∙ over-cons d at x [] h
+pub four-low : (d : List ℕ) (at x : ℕ) → x < 4294967296
+    → set (set (set (set d at (x % 256)) (at + 1) (x / 256 % 256)) (at + 2) (x / 65536 % 256)) (at + 3) (x / 16777216) ≡ over d at (lowFirst 4 x)
+unfolding lowFirst digitsOf
+four-low d at x k =
+    let two : x / 256 / 256 ≡ x / 65536 = div-div-eq-div-mul x 256 256 in
+    let three : x / 65536 / 256 ≡ x / 16777216 = div-div-eq-div-mul x 65536 256 in
+    let last : x / 16777216 % 256 ≡ x / 16777216 = omega arith in
+    rw (low-suc 3 x, low-suc 2 (x / 256), two, low-suc 1 (x / 65536), three, low-suc 0 (x / 16777216), last)
+    (four-put d at (x % 256) (x / 256 % 256) (x / 65536 % 256) (x / 16777216))
 
-pub byte-dropped : (d : List ℕ) (at x : ℕ) → length d ≤ at → d ≡ over d at (x ∷ [])
-byte-dropped d at x h = sym (over-out d at (x ∷ []) h)
+-- the bytes of two numbers, one behind the other, are those of one
+low-join : (m n q r : ℕ) → r < 256 ^ m → lowFirst m r ++ lowFirst n q ≡ lowFirst (m + n) (256 ^ m * q + r)
+unfolding lowFirst digitsOf
+low-join zero n q r h =
+    let z : 256 ^ 0 * q + r ≡ q = omega arith in
+    rw (z, zero-add)
+low-join (suc m) n q r h =
+    let e : 256 ^ suc m * q ≡ 256 * (256 ^ m * q) = rw (pow-succ' 256 m, mul-assoc 256 (256 ^ m) q) in
+    let f : 256 ^ suc m ≡ 256 * 256 ^ m = pow-succ' 256 m in
+    let z : 0 < 256 = omega arith in
+    rw (suc-add, low-suc m r, low-suc (m + n) (256 ^ suc m * q + r), e, mul-add-mod-self-left 256 (256 ^ m * q) r, mul-add-div z (256 ^ m * q) r)
+    (ap (λ (l : List ℕ). r % 256 ∷ l) (low-join m n q (r / 256) (omega arith)))
+
+-- eight as two fours
+pub eight-low : (x : ℕ) → lowFirst 4 (x % 4294967296) ++ lowFirst 4 (x / 4294967296) ≡ lowFirst 8 x
+eight-low x =
+    low-join 4 4 (x / 4294967296) (x % 4294967296) (omega arith) ∙ ap (λ (n : ℕ). lowFirst 8 n) (div-add-mod x 4294967296)
 
 -- ---- several numbers, from the first on
 
@@ -72,25 +110,14 @@ module _ (w : ℕ) (xs d : List ℕ) (i p : ℕ) where
   unfolding numbersBytes
   numbers-done h = rw (drop-of-length-le xs {i = i} h) (over-nil d p)
 
--- ---- the loops' ends
+-- ---- a list copied, from the first element on
 
-pub none-read : (bs : List ℕ) (at count : ℕ)
-    → (0 ≡ numberAt (count - count) (at + count) bs) × (0 < 256 ^ (count - count))
-unfolding numberAt
-none-read bs at count = let z : count - count ≡ 0 = omega arith in rw z (refl, omega arith)
+module _ (xs d : List ℕ) (i : ℕ) where
+  pub copy-turn : i < length xs → over (set d i (getD xs i 0)) (i + 1) (drop (i + 1) xs) ≡ over d i (drop i xs)
+  copy-turn h = rw (drop-cons xs i 0 h, add-one) (byte-first d i (getD xs i 0) (drop (suc i) xs))
 
-pub all-read : (bs : List ℕ) (at count left n : ℕ) → left ≤ 0 → n ≡ numberAt (count - left) (at + left) bs → n < 256 ^ (count - left)
-    → (n ≡ numberAt count at bs) × (n < 256 ^ count)
-all-read bs at count left n h p q =
-    let z : count - left ≡ count = omega arith in
-    let y : at + left ≡ at = omega arith in
-    (rw (z, y) at p, rw z at q)
-
-pub low-begun : (d : List ℕ) (at count x : ℕ) → over d (at + 0) (lowFirst (count - 0) x) ≡ over d at (lowFirst count x)
-low-begun d at count x =
-    let z : count - 0 ≡ count = omega arith in
-    let y : at + 0 ≡ at = omega arith in
-    rw (z, y)
+  pub copy-done : length xs ≤ i → over d i (drop i xs) ≡ d
+  copy-done h = rw (drop-of-length-le xs {i = i} h) (over-nil d i)
 
 -- ---- several numbers read, from the first on
 

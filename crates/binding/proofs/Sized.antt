@@ -1,5 +1,5 @@
 -- Every session that the code holds is sized: what owning one tells of it, field by field.
-use Prim.Native.Nat.{ℕ, _^_}
+use Prim.Native.Nat.{ℕ, zero, suc, _^_, _<_}
 use mathlib.Core.Path.{_≡_, refl}
 use mathlib.Core.List.{List, [], _∷_, map}
 use mir.Val.{Val}
@@ -11,7 +11,8 @@ use denote.Plain.{UInt}
 use denote.Array.{each}
 use denote.Struct.Declared.{row}
 use denote.Struct.Field.{uint-field}
-use lib.ListN.{length, length-map}
+use native.Mathlib.Omega.{arith}
+use lib.ListN.{length, getD, length-map}
 use Rattle.session.specs.declared.session.Level.{Level}
 use Rattle.session.specs.declared.session.Mode.{Mode}
 use Rattle.session.specs.declared.session.Mode.the-variants as mode
@@ -34,6 +35,13 @@ numbers-fit : (w : Width) (n : ℕ) → 2 ^ bits w ≡ 256 ^ n → (xs : List �
 numbers-fit w n e [] us g = Numbers.none
 numbers-fit w n e (x ∷ xs) [] g = absurd g
 numbers-fit w n e (x ∷ xs) (u ∷ us) g = Numbers.more (rw e at (g .0 .1)) (numbers-fit w n e xs us (g .1))
+
+-- an element of an array of bytes, 0 past the end
+pub byte-fits : (xs : List ℕ) (us : List Val) → shadow (each ℕ (UInt w8 .own) xs us) → (i : ℕ) → getD xs i 0 < 256
+byte-fits [] us g i = omega arith
+byte-fits (x ∷ xs) [] g i = absurd g
+byte-fits (x ∷ xs) (u ∷ us) g zero = g .0 .1
+byte-fits (x ∷ xs) (u ∷ us) g (suc i) = byte-fits xs us (g .1) i
 
 -- ---- a session
 

@@ -15,9 +15,7 @@ pub const TYPED: usize = 222;
 
 pub const SIZE: usize = 230;
 
-// A place is kept whole, and a cell is four bytes.
-pub const PLACE: usize = 8;
-
+// A level is a place of eight bytes and two bytes more, and a cell is four bytes.
 pub const LEVEL: usize = 10;
 
 pub const CELL: usize = 4;

@@ -1,44 +1,53 @@
-// Numbers in bytes, low byte first. Reading past the end gives 0, and what is written there is dropped.
+// Numbers in bytes, low byte first. All their bytes are there, so that no test stands between them, and the compiler makes one load or store of four or eight.
 ghost use mathlib.Core.Path.{_≡_};
 ghost use mathlib.Core.List.{[], _∷_};
-ghost use Prim.Native.Nat.{_^_, _≤_, _<_};
+ghost use Prim.Native.Nat.{_+_, _≤_, _<_};
+ghost use lib.ListN.{length};
 ghost use Rattle.laws.specs.Overwrite.{over};
 ghost use Rattle.laws.specs.Digits.{lowFirst};
 ghost use Rattle.binding.specs.Numbers.{numberAt};
-use laws::byte_at;
+use crate::layout::SIZE;
 
-// The number of so many bytes at a place.
-pub(crate) fn number_at(bytes: &[u8], at: usize, count: usize) -> u64
-    requires { ⌜ (at < 65536) × (count ≤ 8) ⌝ }
-    ensures { λ r. ⌜ (r ≡ numberAt count at (now (bytes .entry))) × (r < 256 ^ count) ⌝ }
+// The number of the four bytes at a place.
+pub(crate) fn cell_at(bytes: &[u8], at: usize) -> u32
+    requires { ⌜ at + 4 ≤ length (now bytes) ⌝ }
+    ensures { λ r. ⌜ r ≡ numberAt 4 at (now (bytes .entry)) ⌝ }
 {
-    let mut n: u64 = 0;
-    let mut left = count;
-    while 0 < left {
-        left = left - 1;
-        n = 256 * n + byte_at(bytes, at + left) as u64;
-    }
-    n
+    bytes[at] as u32
+        + 256 * bytes[at + 1] as u32
+        + 65536 * bytes[at + 2] as u32
+        + 16777216 * bytes[at + 3] as u32
 }
 
-pub(crate) fn write_byte(bytes: &mut [u8], at: usize, x: u8)
+// The number of the eight bytes at a place.
+pub(crate) fn place_at(bytes: &[u8], at: usize) -> u64
+    requires { ⌜ at + 8 ≤ length (now bytes) ⌝ }
+    ensures { λ r. ⌜ r ≡ numberAt 8 at (now (bytes .entry)) ⌝ }
+{
+    cell_at(bytes, at) as u64 + 4294967296 * cell_at(bytes, at + 4) as u64
+}
+
+pub(crate) fn write_byte(bytes: &mut [u8; SIZE], at: usize, x: u8)
+    requires { ⌜ at < 230 ⌝ }
     ensures { λ _. ⌜ now (bytes .exit) ≡ over (now (bytes .entry)) at (x ∷ []) ⌝ }
 {
-    if at < bytes.len() {
-        bytes[at] = x;
-    }
+    bytes[at] = x;
 }
 
-// The lowest bytes of a number, so many.
-pub(crate) fn write_number(bytes: &mut [u8], at: usize, count: usize, x: u64)
-    requires { ⌜ (at < 65536) × (count ≤ 8) ⌝ }
-    ensures { λ _. ⌜ now (bytes .exit) ≡ over (now (bytes .entry)) at (lowFirst count x) ⌝ }
+pub(crate) fn write_cell(bytes: &mut [u8; SIZE], at: usize, x: u32)
+    requires { ⌜ at + 4 ≤ 230 ⌝ }
+    ensures { λ _. ⌜ now (bytes .exit) ≡ over (now (bytes .entry)) at (lowFirst 4 x) ⌝ }
 {
-    let mut rest = x;
-    let mut i = 0;
-    while i < count {
-        write_byte(&mut *bytes, at + i, (rest % 256) as u8);
-        rest = rest / 256;
-        i = i + 1;
-    }
+    bytes[at] = (x % 256) as u8;
+    bytes[at + 1] = (x / 256 % 256) as u8;
+    bytes[at + 2] = (x / 65536 % 256) as u8;
+    bytes[at + 3] = (x / 16777216) as u8;
+}
+
+pub(crate) fn write_place(bytes: &mut [u8; SIZE], at: usize, x: u64)
+    requires { ⌜ at + 8 ≤ 230 ⌝ }
+    ensures { λ _. ⌜ now (bytes .exit) ≡ over (now (bytes .entry)) at (lowFirst 8 x) ⌝ }
+{
+    write_cell(&mut *bytes, at, (x % 4294967296) as u32);
+    write_cell(&mut *bytes, at + 4, (x / 4294967296) as u32);
 }

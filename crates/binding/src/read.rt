@@ -1,6 +1,7 @@
 // A session read from bytes. Bytes of another length are the closed session, which never fits.
 ghost use mathlib.Core.Path.{_≡_};
-ghost use Prim.Native.Nat.{_<_};
+ghost use Prim.Native.Nat.{_+_, _≤_};
+ghost use lib.ListN.{length};
 ghost use Rattle.laws.specs.Bytes.{byteAt};
 ghost use Rattle.binding.specs.Numbers.{numberAt, numbersFrom};
 ghost use Rattle.binding.specs.Layout.{levelFrom, levelsFrom, modeBy, sessionIn, sessionFrom};
@@ -13,11 +14,11 @@ use crate::layout::IDLE;
 use crate::layout::LEVEL;
 use crate::layout::MODE;
 use crate::layout::PASSWORD;
-use crate::layout::PLACE;
 use crate::layout::SIZE;
 use crate::layout::TYPED;
 use crate::layout::VISIT;
-use crate::number::number_at;
+use crate::number::cell_at;
+use crate::number::place_at;
 use field::kind::ImagePlace;
 use field::work::Work;
 use laws::byte_at;
@@ -26,17 +27,18 @@ use session::session::Mode;
 use session::session::Session;
 
 fn level_at(bytes: &[u8], at: usize) -> Level
-    requires { ⌜ at < 4096 ⌝ }
+    requires { ⌜ at + 10 ≤ length (now bytes) ⌝ }
     ensures { λ r. ⌜ r ≡ levelFrom at (now (bytes .entry)) ⌝ }
 {
     Level {
-        table: ImagePlace(number_at(bytes, at, PLACE) as usize),
+        table: ImagePlace(place_at(bytes, at) as usize),
         cursor: byte_at(bytes, at + 8),
         first: byte_at(bytes, at + 9),
     }
 }
 
 fn levels(bytes: &[u8]) -> [Level; 7]
+    requires { ⌜ length (now bytes) ≡ 230 ⌝ }
     ensures { λ r. ⌜ r ≡ levelsFrom 7 3 (now (bytes .entry)) ⌝ }
 {
     [
@@ -52,9 +54,10 @@ fn levels(bytes: &[u8]) -> [Level; 7]
 
 // A number that is no mode's is browsing; of a count of digits the lowest byte counts.
 fn mode(bytes: &[u8]) -> Mode
+    requires { ⌜ length (now bytes) ≡ 230 ⌝ }
     ensures { λ r. ⌜ r ≡ modeBy (byteAt (now (bytes .entry)) 84) (numberAt 8 85 (now (bytes .entry))) ⌝ }
 {
-    let of = number_at(bytes, MODE + 1, PLACE);
+    let of = place_at(bytes, MODE + 1);
     match byte_at(bytes, MODE) {
         VISIT => Mode::Visit(ImagePlace(of as usize)),
         PASSWORD => Mode::Password((of % 256) as u8),
@@ -63,12 +66,13 @@ fn mode(bytes: &[u8]) -> Mode
 }
 
 fn cells(bytes: &[u8]) -> [u32; 32]
+    requires { ⌜ length (now bytes) ≡ 230 ⌝ }
     ensures { λ r. ⌜ r ≡ numbersFrom 4 32 94 (now (bytes .entry)) ⌝ }
 {
     let mut cells = [0; 32];
     let mut i = 0;
     while i < 32 {
-        cells[i] = number_at(bytes, CELLS + CELL * i, CELL) as u32;
+        cells[i] = cell_at(bytes, CELLS + CELL * i);
         i = i + 1;
     }
     cells
@@ -80,13 +84,14 @@ fn typed(bytes: &[u8]) -> [u8; 8]
     let mut digits = [0; 8];
     let mut i = 0;
     while i < 8 {
-        digits[i] = number_at(bytes, TYPED + i, 1) as u8;
+        digits[i] = byte_at(bytes, TYPED + i);
         i = i + 1;
     }
     digits
 }
 
 fn session_in(bytes: &[u8]) -> Session
+    requires { ⌜ length (now bytes) ≡ 230 ⌝ }
     ensures { λ r. ⌜ r ≡ sessionIn (now (bytes .entry)) ⌝ }
 {
     Session {

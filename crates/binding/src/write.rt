@@ -1,7 +1,7 @@
-// A session written to bytes, piece by piece.
+// A session written to bytes, piece by piece: whole first, so that no piece asks how many bytes the caller has.
 ghost use mathlib.Core.Path.{_≡_};
 ghost use mathlib.Core.List.{[], _∷_};
-ghost use Prim.Native.Nat.{_<_};
+ghost use Prim.Native.Nat.{_+_, _≤_};
 ghost use lib.ListN.{length};
 ghost use Rattle.laws.specs.Overwrite.{over};
 ghost use Rattle.binding.specs.Numbers.{numbersBytes};
@@ -16,26 +16,27 @@ use crate::layout::IDLE;
 use crate::layout::LEVEL;
 use crate::layout::MODE;
 use crate::layout::PASSWORD;
-use crate::layout::PLACE;
+use crate::layout::SIZE;
 use crate::layout::TYPED;
 use crate::layout::VISIT;
 use crate::number::write_byte;
-use crate::number::write_number;
+use crate::number::write_cell;
+use crate::number::write_place;
 use session::session::Level;
 use session::session::Mode;
 use session::session::Session;
 
-fn write_level(bytes: &mut [u8], at: usize, level: Level)
-    requires { ⌜ at < 4096 ⌝ }
+fn write_level(bytes: &mut [u8; SIZE], at: usize, level: Level)
+    requires { ⌜ at + 10 ≤ 230 ⌝ }
     ensures { λ _. ⌜ now (bytes .exit) ≡ over (now (bytes .entry)) at (levelBytes level) ⌝ }
 {
     let table = level.table;
-    write_number(&mut *bytes, at, PLACE, table.0 as u64);
+    write_place(&mut *bytes, at, table.0 as u64);
     write_byte(&mut *bytes, at + 8, level.cursor);
     write_byte(&mut *bytes, at + 9, level.first);
 }
 
-fn write_levels(bytes: &mut [u8], levels: [Level; 7])
+fn write_levels(bytes: &mut [u8; SIZE], levels: [Level; 7])
     ensures { λ _. ⌜ now (bytes .exit) ≡ over (now (bytes .entry)) 3 (levelsBytes levels) ⌝ }
 {
     let mut i = 0;
@@ -45,46 +46,46 @@ fn write_levels(bytes: &mut [u8], levels: [Level; 7])
     }
 }
 
-fn write_mode(bytes: &mut [u8], mode: Mode)
+fn write_mode(bytes: &mut [u8; SIZE], mode: Mode)
     ensures { λ _. ⌜ now (bytes .exit) ≡ over (now (bytes .entry)) 84 (modeBytes mode) ⌝ }
 {
     match mode {
         Mode::Browsing => {
             write_byte(&mut *bytes, MODE, BROWSING);
-            write_number(&mut *bytes, MODE + 1, PLACE, 0);
+            write_place(&mut *bytes, MODE + 1, 0);
         }
         Mode::Visit(place) => {
             write_byte(&mut *bytes, MODE, VISIT);
-            write_number(&mut *bytes, MODE + 1, PLACE, place.0 as u64);
+            write_place(&mut *bytes, MODE + 1, place.0 as u64);
         }
         Mode::Password(count) => {
             write_byte(&mut *bytes, MODE, PASSWORD);
-            write_number(&mut *bytes, MODE + 1, PLACE, count as u64);
+            write_place(&mut *bytes, MODE + 1, count as u64);
         }
     }
 }
 
-fn write_cells(bytes: &mut [u8], cells: [u32; 32])
+fn write_cells(bytes: &mut [u8; SIZE], cells: [u32; 32])
     ensures { λ _. ⌜ now (bytes .exit) ≡ over (now (bytes .entry)) 94 (numbersBytes 4 cells) ⌝ }
 {
     let mut i = 0;
     while i < 32 {
-        write_number(&mut *bytes, CELLS + CELL * i, CELL, cells[i] as u64);
+        write_cell(&mut *bytes, CELLS + CELL * i, cells[i]);
         i = i + 1;
     }
 }
 
-fn write_typed(bytes: &mut [u8], digits: [u8; 8])
+fn write_typed(bytes: &mut [u8; SIZE], digits: [u8; 8])
     ensures { λ _. ⌜ now (bytes .exit) ≡ over (now (bytes .entry)) 222 (numbersBytes 1 digits) ⌝ }
 {
     let mut i = 0;
     while i < 8 {
-        write_number(&mut *bytes, TYPED + i, 1, digits[i] as u64);
+        write_byte(&mut *bytes, TYPED + i, digits[i]);
         i = i + 1;
     }
 }
 
-fn write_shape(bytes: &mut [u8], columns: u8, lines: u8, outer: u8)
+fn write_shape(bytes: &mut [u8; SIZE], columns: u8, lines: u8, outer: u8)
     ensures { λ _. ⌜ now (bytes .exit) ≡ over (now (bytes .entry)) 0 (columns ∷ lines ∷ outer ∷ []) ⌝ }
 {
     write_byte(&mut *bytes, 0, columns);
@@ -93,7 +94,7 @@ fn write_shape(bytes: &mut [u8], columns: u8, lines: u8, outer: u8)
 }
 
 // What is shown: the display's shape, the open tables, the idle count.
-fn write_shown(bytes: &mut [u8], session: Session)
+fn write_shown(bytes: &mut [u8; SIZE], session: Session)
     ensures { λ _. ⌜ now (bytes .exit) ≡ over (now (bytes .entry)) 0 (shownBytes session) ⌝ }
 {
     let above = session.above;
@@ -105,7 +106,7 @@ fn write_shown(bytes: &mut [u8], session: Session)
 }
 
 // What is done: the mode, the working copy, the digits typed.
-fn write_doing(bytes: &mut [u8], session: Session)
+fn write_doing(bytes: &mut [u8; SIZE], session: Session)
     ensures { λ _. ⌜ now (bytes .exit) ≡ over (now (bytes .entry)) 84 (doingBytes session) ⌝ }
 {
     let mode = session.mode;
@@ -118,12 +119,25 @@ fn write_doing(bytes: &mut [u8], session: Session)
     write_typed(&mut *bytes, typed);
 }
 
+// As many of the bytes as there is room for.
+fn write_bytes(bytes: &mut [u8], whole: [u8; SIZE])
+    ensures { λ _. ⌜ now (bytes .exit) ≡ over (now (bytes .entry)) 0 whole ⌝ }
+{
+    let mut i = 0;
+    while i < SIZE && i < bytes.len() {
+        bytes[i] = whole[i];
+        i = i + 1;
+    }
+}
+
 // Every session has bytes of the same length, and they are read back as that session.
 pub fn write_session(bytes: &mut [u8], session: Session)
     ensures { λ _. ⌜ now (bytes .exit) ≡ over (now (bytes .entry)) 0 (sessionBytes session) ⌝ }
     ensures { λ _. ⌜ length (sessionBytes session) ≡ sessionSize ⌝ }
     ensures { λ _. ⌜ sessionFrom (sessionBytes session) ≡ session ⌝ }
 {
-    write_shown(&mut *bytes, session);
-    write_doing(&mut *bytes, session);
+    let mut whole = [0; SIZE];
+    write_shown(&mut whole, session);
+    write_doing(&mut whole, session);
+    write_bytes(&mut *bytes, whole);
 }

@@ -19,17 +19,14 @@ abbrev μ-loop : tie.MeasureT-loop
 loop-holds : tie.Need-loop-holds Inv-loop μ-loop
 loop-holds c = (from-begun 4 32 (c .before .args .bytes .now) _ 94 refl, refl)
 
-mul-number-at : tie.Need-mul-number-at Inv-loop μ-loop
-mul-number-at c = omega arith
+mul-cell-at : tie.Need-mul-cell-at Inv-loop μ-loop
+mul-cell-at c = omega arith
 
-add-number-at : tie.Need-add-number-at Inv-loop μ-loop
-add-number-at c = omega arith
+add-cell-at : tie.Need-add-cell-at Inv-loop μ-loop
+add-cell-at c = omega arith
 
-number-at-requires : tie.Need-number-at-requires Inv-loop μ-loop
-number-at-requires c κs = search needs
-
-cast-cells : tie.Need-cast-cells Inv-loop μ-loop
-cast-cells c = omega (arith, c .number-at .ensures .1)
+cell-at-requires : tie.Need-cell-at-requires Inv-loop μ-loop
+cell-at-requires c κs = search needs
 
 mul-cells : tie.Need-mul-cells Inv-loop μ-loop
 mul-cells c = omega arith
@@ -44,7 +41,7 @@ loop-less : tie.Need-loop-less Inv-loop μ-loop
 loop-less c = omega arith
 
 loop-again : tie.Need-loop-again Inv-loop μ-loop
-loop-again c = (from-turn 4 32 (c .before .before .before .before .args .bytes .now) (c .before .before .loop .cells) (c .before .before .loop .i) (94 + 4 * c .before .before .loop .i) (94 + 4 * (c .before .before .loop .i + 1)) (c .number-at .result) (c .before .loop-test .taken) (omega arith) (omega arith) (c .number-at .ensures .0) ∙ c .before .before .loop .inv .0, length-set (c .before .before .loop .cells) (c .before .before .loop .i) (c .number-at .result) ∙ c .before .before .loop .inv .1)
+loop-again c = (from-turn 4 32 (c .before .before .before .before .args .bytes .now) (c .before .before .loop .cells) (c .before .before .loop .i) (94 + 4 * c .before .before .loop .i) (94 + 4 * (c .before .before .loop .i + 1)) (c .cell-at .result) (c .before .loop-test .taken) (omega arith) (omega arith) (c .cell-at .ensures) ∙ c .before .before .loop .inv .0, length-set (c .before .before .loop .cells) (c .before .before .loop .i) (c .cell-at .result) ∙ c .before .before .loop .inv .1)
 
 returns : tie.Need-returns Inv-loop μ-loop
 returns c = sym (from-done 4 32 (c .before .before .before .args .bytes .now) (c .before .loop .cells) (c .before .loop .i) (94 + 4 * c .before .loop .i) (c .loop-test .left)) ∙ c .before .loop .inv .0
@@ -56,10 +53,9 @@ cells-spec =
     Inv-loop
     μ-loop
     loop-holds
-    mul-number-at
-    add-number-at
-    number-at-requires
-    cast-cells
+    mul-cell-at
+    add-cell-at
+    cell-at-requires
     mul-cells
     array-write-cells
     add-i

@@ -4,8 +4,8 @@ use borrow.Author.Needs.{needs}
 use Rattle.binding.proofs.read.level_at.Statement.{statement}
 use Rattle.binding.proofs.read.level_at.Tie as tie
 
-number-at-requires : tie.Need-number-at-requires
-number-at-requires c κs = search needs
+place-at-requires : tie.Need-place-at-requires
+place-at-requires c κs = search needs
 
 add-byte-at : tie.Need-add-byte-at
 add-byte-at c = search needs
@@ -21,13 +21,13 @@ byte-at-requires-2 c κs = search needs
 
 returns : tie.Need-returns
 unfolding levelFrom
-returns c = rw (c .before .before .number-at .ensures .0, c .before .byte-at .ensures, c .byte-at2 .ensures)
+returns c = rw (c .before .before .place-at .ensures, c .before .byte-at .ensures, c .byte-at2 .ensures)
 
 pub level-at-spec : {M : Type 1} → statement M
 level-at-spec =
     tie.close
     (tie.spec
-    number-at-requires
+    place-at-requires
     add-byte-at
     byte-at-requires
     add-byte-at-2

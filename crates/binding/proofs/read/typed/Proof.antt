@@ -5,7 +5,7 @@ use native.Mathlib.Omega.{arith}
 use lib.ListN.{length, length-set}
 use Rattle.laws.specs.Overwrite.{over}
 use Rattle.binding.specs.Numbers.{numbersFrom}
-use Rattle.binding.proofs.Numbers.{from-begun, from-turn, from-done}
+use Rattle.binding.proofs.Numbers.{one-read, from-begun, from-turn, from-done}
 use borrow.Author.Needs.{needs}
 use Rattle.binding.proofs.read.typed.Statement.{statement}
 use Rattle.binding.proofs.read.typed.Tie as tie
@@ -19,14 +19,11 @@ abbrev μ-loop : tie.MeasureT-loop
 loop-holds : tie.Need-loop-holds Inv-loop μ-loop
 loop-holds c = (from-begun 1 8 (c .before .args .bytes .now) _ 222 refl, refl)
 
-add-number-at : tie.Need-add-number-at Inv-loop μ-loop
-add-number-at c = omega arith
+add-byte-at : tie.Need-add-byte-at Inv-loop μ-loop
+add-byte-at c = omega arith
 
-number-at-requires : tie.Need-number-at-requires Inv-loop μ-loop
-number-at-requires c κs = search needs
-
-cast-digits : tie.Need-cast-digits Inv-loop μ-loop
-cast-digits c = omega (arith, c .number-at .ensures .1)
+byte-at-requires : tie.Need-byte-at-requires Inv-loop μ-loop
+byte-at-requires c κs = search needs
 
 array-write-digits : tie.Need-array-write-digits Inv-loop μ-loop
 array-write-digits c = search needs
@@ -38,7 +35,7 @@ loop-less : tie.Need-loop-less Inv-loop μ-loop
 loop-less c = omega arith
 
 loop-again : tie.Need-loop-again Inv-loop μ-loop
-loop-again c = (from-turn 1 8 (c .before .before .before .before .args .bytes .now) (c .before .before .loop .digits) (c .before .before .loop .i) (222 + c .before .before .loop .i) (222 + (c .before .before .loop .i + 1)) (c .number-at .result) (c .before .loop-test .taken) (omega arith) (omega arith) (c .number-at .ensures .0) ∙ c .before .before .loop .inv .0, length-set (c .before .before .loop .digits) (c .before .before .loop .i) (c .number-at .result) ∙ c .before .before .loop .inv .1)
+loop-again c = (from-turn 1 8 (c .before .before .before .before .args .bytes .now) (c .before .before .loop .digits) (c .before .before .loop .i) (222 + c .before .before .loop .i) (222 + (c .before .before .loop .i + 1)) (c .byte-at .result) (c .before .loop-test .taken) (omega arith) (omega arith) (c .byte-at .ensures ∙ one-read _ _) ∙ c .before .before .loop .inv .0, length-set (c .before .before .loop .digits) (c .before .before .loop .i) (c .byte-at .result) ∙ c .before .before .loop .inv .1)
 
 returns : tie.Need-returns Inv-loop μ-loop
 returns c = sym (from-done 1 8 (c .before .before .before .args .bytes .now) (c .before .loop .digits) (c .before .loop .i) (222 + c .before .loop .i) (c .loop-test .left)) ∙ c .before .loop .inv .0
@@ -50,9 +47,8 @@ typed-spec =
     Inv-loop
     μ-loop
     loop-holds
-    add-number-at
-    number-at-requires
-    cast-digits
+    add-byte-at
+    byte-at-requires
     array-write-digits
     add-i
     loop-less

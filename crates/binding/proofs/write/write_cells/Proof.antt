@@ -11,31 +11,28 @@ use Rattle.binding.proofs.write.write_cells.Statement.{statement}
 use Rattle.binding.proofs.write.write_cells.Tie as tie
 
 abbrev Inv-loop : tie.InvT-loop
-Inv-loop bytes₀ cells i₀ bytes i = (over bytes (94 + 4 * i) (numbersBytes 4 (drop i cells)) ≡ over bytes₀ 94 (numbersBytes 4 cells)) × ((length bytes ≡ length bytes₀) × (length cells ≡ 32))
+Inv-loop bytes₀ cells i₀ bytes i = (over bytes (94 + 4 * i) (numbersBytes 4 (drop i cells)) ≡ over bytes₀ 94 (numbersBytes 4 cells)) × (length cells ≡ 32)
 
 abbrev μ-loop : tie.MeasureT-loop
 μ-loop bytes₀ cells i₀ bytes i = 32 - i
 
 loop-holds : tie.Need-loop-holds Inv-loop μ-loop
-loop-holds c = (refl, (refl, c .before .good .1 .0 .1 .0 .1))
+loop-holds c = (refl, c .good .1 .0 .1 .0 .1)
 
-mul-write-number : tie.Need-mul-write-number Inv-loop μ-loop
-mul-write-number c = omega arith
+mul-write-cell : tie.Need-mul-write-cell Inv-loop μ-loop
+mul-write-cell c = omega arith
 
-add-write-number : tie.Need-add-write-number Inv-loop μ-loop
-add-write-number c = omega arith
+add-write-cell : tie.Need-add-write-cell Inv-loop μ-loop
+add-write-cell c = omega arith
 
-mul-write-number-2 : tie.Need-mul-write-number-2 Inv-loop μ-loop
-mul-write-number-2 c = omega arith
+mul-write-cell-2 : tie.Need-mul-write-cell-2 Inv-loop μ-loop
+mul-write-cell-2 c = omega arith
 
-array-read-write-number : tie.Need-array-read-write-number Inv-loop μ-loop
-array-read-write-number c = search needs
+array-read-write-cell : tie.Need-array-read-write-cell Inv-loop μ-loop
+array-read-write-cell c = search needs
 
-cast-write-number : tie.Need-cast-write-number Inv-loop μ-loop
-cast-write-number c = search needs
-
-write-number-requires : tie.Need-write-number-requires Inv-loop μ-loop
-write-number-requires c κs = search needs
+write-cell-requires : tie.Need-write-cell-requires Inv-loop μ-loop
+write-cell-requires c κs = omega arith
 
 add-i : tie.Need-add-i Inv-loop μ-loop
 add-i c = omega arith
@@ -44,13 +41,10 @@ loop-less : tie.Need-loop-less Inv-loop μ-loop
 loop-less c = omega arith
 
 loop-again : tie.Need-loop-again Inv-loop μ-loop
-loop-again c = (numbers-turn 4 (c .before .before .before .before .before .before .before .args .t2) (c .before .before .before .before .before .loop .bytes) (c .before .before .before .before .before .loop .i) (94 + 4 * c .before .before .before .before .before .loop .i) _ (94 + 4 * (c .before .before .before .before .before .loop .i + 1)) (omega arith) (omega arith) (c .before .before .write-number .ensures) ∙ c .before .before .before .before .before .loop .inv .0, (c .before .before .write-number .kept .0 ∙ c .before .before .before .before .before .loop .inv .1 .0, c .before .before .before .before .before .loop .inv .1 .1))
-
-same-length : tie.Need-same-length Inv-loop μ-loop
-same-length c = c .before .loop .inv .1 .0
+loop-again c = (numbers-turn 4 (c .before .before .before .before .args .t2) (c .before .before .before .loop .bytes) (c .before .before .before .loop .i) (94 + 4 * c .before .before .before .loop .i) _ (94 + 4 * (c .before .before .before .loop .i + 1)) (omega arith) (omega arith) (c .write-cell .ensures) ∙ c .before .before .before .loop .inv .0, c .before .before .before .loop .inv .1)
 
 returns : tie.Need-returns Inv-loop μ-loop
-returns c = sym (numbers-done 4 (c .before .before .before .args .t2) (c .before .loop .bytes) (c .before .loop .i) (94 + 4 * c .before .loop .i) (omega arith)) ∙ c .before .loop .inv .0
+returns c = sym (numbers-done 4 (c .before .before .args .t2) (c .before .loop .bytes) (c .before .loop .i) (94 + 4 * c .before .loop .i) (omega arith)) ∙ c .before .loop .inv .0
 
 pub write-cells-spec : {M : Type 1} → statement M
 write-cells-spec =
@@ -59,14 +53,12 @@ write-cells-spec =
     Inv-loop
     μ-loop
     loop-holds
-    mul-write-number
-    add-write-number
-    mul-write-number-2
-    array-read-write-number
-    cast-write-number
-    write-number-requires
+    mul-write-cell
+    add-write-cell
+    mul-write-cell-2
+    array-read-write-cell
+    write-cell-requires
     add-i
     loop-less
     loop-again
-    same-length
     returns)

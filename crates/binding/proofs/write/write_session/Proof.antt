@@ -1,10 +1,14 @@
--- What is shown, then what is done.
+-- What is shown, then what is done, then all of it written.
+use mathlib.Core.Path.{ap, _∙_}
+use mathlib.Core.List.{List}
+use Prim.Native.Nat.{ℕ}
+use native.Mathlib.Omega.{arith}
+use Rattle.laws.specs.Overwrite.{over}
+use Rattle.laws.proofs.Overwriting.{over-all}
+use Rattle.binding.specs.Layout.{shownBytes, doingBytes, sessionBytes}
 use Rattle.binding.proofs.Layouts.{joined, length-shown, length-session}
 use Rattle.binding.proofs.Sized.{sized}
 use Rattle.binding.proofs.ReadBack.{read-back}
-use Rattle.binding.proofs.Layouts.{length-session}
-use native.Mathlib.Omega.{arith}
-use Rattle.binding.specs.Layout.{shownBytes, doingBytes, sessionBytes}
 use borrow.Author.Needs.{needs}
 use Rattle.binding.proofs.write.write_session.Statement.{statement}
 use Rattle.binding.proofs.write.write_session.Tie as tie
@@ -15,12 +19,17 @@ write-shown-requires c κs = search needs
 write-doing-requires : tie.Need-write-doing-requires
 write-doing-requires c κs = search needs
 
+write-bytes-requires : tie.Need-write-bytes-requires
+write-bytes-requires c κs = search needs
+
 same-length : tie.Need-same-length
 same-length c = search needs
 
 returns : tie.Need-returns
 unfolding sessionBytes
-returns c = let z = sized (c .before .before .before .before .before .before .before .before .before .args .session) _ (c .before .before .before .before .before .before .before .before .before .good .1 .0) in (joined _ 0 84 (shownBytes (c .before .before .before .before .before .before .before .before .before .args .session)) (doingBytes (c .before .before .before .before .before .before .before .before .before .args .session)) (c .before .before .before .before .before .before .write-shown .ensures) (c .before .before .write-doing .ensures) (omega (arith, length-shown (c .before .before .before .before .before .before .before .before .before .args .session) (z .seven))), (length-session (c .before .before .before .before .before .before .before .before .before .args .session) (z .seven) (z .thirty-two) (z .eight), read-back (c .before .before .before .before .before .before .before .before .before .args .session) z))
+returns c = let s = c .before .before .before .before .before .before .before .before .before .args .session in let z = sized s _ (c .before .before .before .before .before .before .before .before .before .good .1 .0) in let n = length-session s (z .seven) (z .thirty-two) (z .eight) in let all = joined _ 0 84 (shownBytes s) (doingBytes s) (c .before .before .before .before .before .before .write-shown .ensures) (c .before .before .before .before .write-doing .ensures) (omega (arith, length-shown s (z .seven))) in (c .before .before .write-bytes .ensures ∙ ap (λ (l : List ℕ). over (c .before .before .before .before .before .before .before .before .before .args .bytes .now) 0 l) (all ∙ over-all _ (sessionBytes s) n), (n, read-back s z))
 
 pub write-session-spec : {M : Type 1} → statement M
-write-session-spec = tie.close (tie.spec write-shown-requires write-doing-requires same-length returns)
+write-session-spec =
+    tie.close
+    (tie.spec write-shown-requires write-doing-requires write-bytes-requires same-length returns)

@@ -2,34 +2,32 @@
 use Prim.Native.Nat.{_+_, _-_}
 use mathlib.Core.Path.{_≡_, refl, sym, _∙_}
 use native.Mathlib.Omega.{arith}
-use lib.ListN.{length, drop}
+use lib.ListN.{length, drop, getD}
+use Rattle.binding.proofs.Sized.{byte-fits}
 use Rattle.laws.specs.Overwrite.{over}
 use Rattle.binding.specs.Numbers.{numbersBytes}
-use Rattle.binding.proofs.Numbers.{numbers-turn, numbers-done}
+use Rattle.binding.proofs.Numbers.{one-low, numbers-turn, numbers-done}
 use borrow.Author.Needs.{needs}
 use Rattle.binding.proofs.write.write_typed.Statement.{statement}
 use Rattle.binding.proofs.write.write_typed.Tie as tie
 
 abbrev Inv-loop : tie.InvT-loop
-Inv-loop bytes₀ digits i₀ bytes i = (over bytes (222 + i) (numbersBytes 1 (drop i digits)) ≡ over bytes₀ 222 (numbersBytes 1 digits)) × ((length bytes ≡ length bytes₀) × (length digits ≡ 8))
+Inv-loop bytes₀ digits i₀ bytes i = (over bytes (222 + i) (numbersBytes 1 (drop i digits)) ≡ over bytes₀ 222 (numbersBytes 1 digits)) × (length digits ≡ 8)
 
 abbrev μ-loop : tie.MeasureT-loop
 μ-loop bytes₀ digits i₀ bytes i = 8 - i
 
 loop-holds : tie.Need-loop-holds Inv-loop μ-loop
-loop-holds c = (refl, (refl, c .before .good .1 .0 .1 .0 .1))
+loop-holds c = (refl, c .good .1 .0 .1 .0 .1)
 
-add-write-number : tie.Need-add-write-number Inv-loop μ-loop
-add-write-number c = omega arith
+add-write-byte : tie.Need-add-write-byte Inv-loop μ-loop
+add-write-byte c = omega arith
 
-array-read-write-number : tie.Need-array-read-write-number Inv-loop μ-loop
-array-read-write-number c = search needs
+array-read-write-byte : tie.Need-array-read-write-byte Inv-loop μ-loop
+array-read-write-byte c = search needs
 
-cast-write-number : tie.Need-cast-write-number Inv-loop μ-loop
-cast-write-number c = search needs
-
-write-number-requires : tie.Need-write-number-requires Inv-loop μ-loop
-write-number-requires c κs = search needs
+write-byte-requires : tie.Need-write-byte-requires Inv-loop μ-loop
+write-byte-requires c κs = omega arith
 
 add-i : tie.Need-add-i Inv-loop μ-loop
 add-i c = omega arith
@@ -38,13 +36,10 @@ loop-less : tie.Need-loop-less Inv-loop μ-loop
 loop-less c = omega arith
 
 loop-again : tie.Need-loop-again Inv-loop μ-loop
-loop-again c = (numbers-turn 1 (c .before .before .before .before .before .before .before .args .t2) (c .before .before .before .before .before .loop .bytes) (c .before .before .before .before .before .loop .i) (222 + c .before .before .before .before .before .loop .i) _ (222 + (c .before .before .before .before .before .loop .i + 1)) (omega arith) (omega arith) (c .before .before .write-number .ensures) ∙ c .before .before .before .before .before .loop .inv .0, (c .before .before .write-number .kept .0 ∙ c .before .before .before .before .before .loop .inv .1 .0, c .before .before .before .before .before .loop .inv .1 .1))
-
-same-length : tie.Need-same-length Inv-loop μ-loop
-same-length c = c .before .loop .inv .1 .0
+loop-again c = let x = getD (c .before .before .before .before .args .t2) (c .before .before .before .loop .i) 0 in let e = one-low x (byte-fits (c .before .before .before .before .args .t2) _ (c .before .before .before .before .good .1 .0 .1 .1) (c .before .before .before .loop .i)) in (numbers-turn 1 (c .before .before .before .before .args .t2) (c .before .before .before .loop .bytes) (c .before .before .before .loop .i) (222 + c .before .before .before .loop .i) _ (222 + (c .before .before .before .loop .i + 1)) (omega arith) (omega arith) (rw (← e) (c .write-byte .ensures)) ∙ c .before .before .before .loop .inv .0, c .before .before .before .loop .inv .1)
 
 returns : tie.Need-returns Inv-loop μ-loop
-returns c = sym (numbers-done 1 (c .before .before .before .args .t2) (c .before .loop .bytes) (c .before .loop .i) (222 + c .before .loop .i) (omega arith)) ∙ c .before .loop .inv .0
+returns c = sym (numbers-done 1 (c .before .before .args .t2) (c .before .loop .bytes) (c .before .loop .i) (222 + c .before .loop .i) (omega arith)) ∙ c .before .loop .inv .0
 
 pub write-typed-spec : {M : Type 1} → statement M
 write-typed-spec =
@@ -53,12 +48,10 @@ write-typed-spec =
     Inv-loop
     μ-loop
     loop-holds
-    add-write-number
-    array-read-write-number
-    cast-write-number
-    write-number-requires
+    add-write-byte
+    array-read-write-byte
+    write-byte-requires
     add-i
     loop-less
     loop-again
-    same-length
     returns)
