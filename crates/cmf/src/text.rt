@@ -13,7 +13,7 @@ pub struct Run {
     pub longest: u8,
 }
 
-pub fn larger(a: u8, b: u8) -> u8
+fn larger(a: u8, b: u8) -> u8
     ensures { λ r. ⌜ r ≡ max a b ⌝ }
 {
     if a < b { b } else { a }

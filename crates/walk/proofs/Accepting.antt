@@ -34,15 +34,15 @@ use Rattle.walk.proofs.Marks.{covers-apart, covers-kept, covers-add}
 -- ---- states that stand
 
 -- a state that stands has refused nothing, so the next step is taken
-pub stands-then : {sheet : ℕ} {w : Stage} {m : List ℕ} {x : State} (y : State) → Stands sheet w m x → andThen x y ≡ y
+pub stands-then : {w : Stage} {m : List ℕ} {x : State} (y : State) → Stands w m x → andThen x y ≡ y
 unfolding andThen fine
 stands-then y t = if-true y _ (rw (t .is) refl)
 
 -- a state that is known stands
 pub stands-at :
-    {sheet : ℕ} {w : Stage} {m : List ℕ} (x : State) (at lines : ℕ) (es : List Entry) → x ≡ stood at lines es → at ≡ w .at → lines ≡ w .lines → length es ≡ w .fields →
-    Covers m es → length m ≡ sheet → Stands sheet w m x
-stands-at x at lines es e a l n c s = rw e (record { is = rw (a, l) refl; count = n; covers = c; size = s })
+    {w : Stage} {m : List ℕ} (x : State) (at lines : ℕ) (es : List Entry) → x ≡ stood at lines es → at ≡ w .at → lines ≡ w .lines → length es ≡ w .fields →
+    Covers m es → Stands w m x
+stands-at x at lines es e a l n c = rw e (record { is = rw (a, l) refl; count = n; covers = c })
 
 module _ (im : List ℕ) where
   abbrev A : Agree im
@@ -52,36 +52,32 @@ module _ (im : List ℕ) where
 
   -- the field of a component is taken, if it is one
   takes-claims :
-      {sheet : ℕ} {old new : List ℕ} {before after : ℕ} {fs : List Field} (es : List Entry) → sheet ≤ longestSheet → length old ≡ sheet → length es ≡ before → Covers old es →
-      Claims old new before after fs → Takes sheet mostFields es fs
-  takes-claims es h l n c (Claims.none a b) = Takes.none
-  takes-claims {sheet} {old} es h l n c (Claims.one {f = f} a b d) =
-      Takes.add {es = es} (omega arith) (sheet-is sheet f (record { short = h; inside = omega (arith, d .inside) })) (covers-apart old (entryOf f) c (d .free)) Takes.none
+      {sheet : ℕ} {old new : List ℕ} {before after : ℕ} {fs : List Field} (es : List Entry) → sheet ≤ longestSheet → length es ≡ before → Covers old es →
+      Claims sheet old new before after fs → Takes sheet mostFields es fs
+  takes-claims es h n c (Claims.none a b) = Takes.none
+  takes-claims {sheet} {old} es h n c (Claims.one {f = f} a b d) =
+      Takes.add {es = es} (omega arith) (sheet-is sheet f (record { short = h; inside = d .inside })) (covers-apart old (entryOf f) c (d .free)) Takes.none
 
   claims-count :
-      {old new : List ℕ} {before after : ℕ} {fs : List Field} (es : List Entry) → length es ≡ before → Claims old new before after fs → length (put es fs) ≡ after
+      {sheet : ℕ} {old new : List ℕ} {before after : ℕ} {fs : List Field} (es : List Entry) → length es ≡ before → Claims sheet old new before after fs → length (put es fs) ≡ after
   claims-count es n (Claims.none a b) = rw append-nil (omega arith)
   claims-count es n (Claims.one {f = f} a b d) = omega (arith, length-append es (entryOf f ∷ []))
 
-  claims-cover : {old new : List ℕ} {before after : ℕ} {fs : List Field} (es : List Entry) → Covers old es → Claims old new before after fs → Covers new (put es fs)
+  claims-cover : {sheet : ℕ} {old new : List ℕ} {before after : ℕ} {fs : List Field} (es : List Entry) → Covers old es → Claims sheet old new before after fs → Covers new (put es fs)
   claims-cover es c (Claims.none a b) = rw (append-nil, a) c
-  claims-cover {old} {new} es c (Claims.one {f = f} a b d) = covers-add new (entryOf f) (covers-kept old new (d .kept) c) (d .marked)
-
-  claims-same : {old new : List ℕ} {before after : ℕ} {fs : List Field} → Claims old new before after fs → length new ≡ length old
-  claims-same (Claims.none a b) = ap (λ (m : List ℕ). length m) a
-  claims-same (Claims.one a b d) = d .same
+  claims-cover {old = old} {new = new} es c (Claims.one {f = f} a b d) = covers-add new (entryOf f) (covers-kept old new (d .kept) c) (d .marked)
 
   -- an option, and a field of any kind
   pub option-passes :
-      {p end from : ℕ} {v : Stage} {old new : List ℕ} (good : Bool) → Component im p end (optionAt im p ∷ []) → from ≡ wordAt im (p + 4) → v .fields < mostFields → Claimed old new from 1 →
-      Passes im p v (record { good = good; at = end; lines = v .lines; fields = v .fields + 1 }) old new
+      {sheet p end from : ℕ} {v : Stage} {old new : List ℕ} (good : Bool) → Component im p end (optionAt im p ∷ []) → from ≡ wordAt im (p + 4) → v .fields < mostFields → Claimed sheet old new from 1 →
+      Passes im sheet p v (record { good = good; at = end; lines = v .lines; fields = v .fields + 1 }) old new
   unfolding profileOf
-  option-passes {p} good c e n k = record { fields = optionAt im p ∷ []; component = c; lines = refl; claims = Claims.one n refl (rw e at k) }
+  option-passes {p = p} good c e n k = record { fields = optionAt im p ∷ []; component = c; lines = refl; claims = Claims.one n refl (rw e at k) }
 
   pub any-passes :
-      {p size : ℕ} {c : read.Component} {v : Stage} {old new : List ℕ} (good : Bool) → c ≡ componentAt im p → c .refusal ≡ 0 → c .holds ≡ true → v .fields < mostFields → size ≡ sizeOf (c .field) →
-      Claimed old new (c .field .sheet .0) size → Passes im p v (record { good = good; at = c .end; lines = v .lines; fields = v .fields + 1 }) old new
-  any-passes {p} {c = c} {v} {old} {new} good e =
+      {sheet p size : ℕ} {c : read.Component} {v : Stage} {old new : List ℕ} (good : Bool) → c ≡ componentAt im p → c .refusal ≡ 0 → c .holds ≡ true → v .fields < mostFields → size ≡ sizeOf (c .field) →
+      Claimed sheet old new (c .field .sheet .0) size → Passes im sheet p v (record { good = good; at = c .end; lines = v .lines; fields = v .fields + 1 }) old new
+  any-passes {p = p} good e =
       rw e (λ z h n b k. record {
         fields = componentAt im p .field ∷ [];
         component = rw (if-true (componentAt im p .field ∷ []) [] h) at (A .component-reads p z .component);
@@ -90,14 +86,14 @@ module _ (im : List ℕ) where
       })
 
   component-stands :
-      {sheet : ℕ} {v w : Stage} {old new : List ℕ} (p : ℕ) (s : State) → sheet ≤ longestSheet → Aligned im 0 (v .at) p → Passes im p v w old new → Stands sheet v old s →
-      Stands sheet w new (onComponent im sheet mostFields p s)
+      {sheet : ℕ} {v w : Stage} {old new : List ℕ} (p : ℕ) (s : State) → sheet ≤ longestSheet → Aligned im 0 (v .at) p → Passes im sheet p v w old new → Stands v old s →
+      Stands w new (onComponent im sheet mostFields p s)
   component-stands {sheet} {v} {w} {old} {new} p s h a q t =
       let es : List Entry = s .fields in
-      let g = takes-claims es h (t .size) (t .count) (t .covers) (q .claims) in
+      let g = takes-claims es h (t .count) (t .covers) (q .claims) in
       stands-at (onComponent im sheet mostFields p s) (w .at) (v .lines) (put es (q .fields))
       (ap (onComponent im sheet mostFields p) (t .is) ∙ component-goes im A sheet mostFields p (w .at) (v .at) (v .lines) es (q .fields) (q .component) a g)
-      refl (sym (q .lines)) (claims-count es (t .count) (q .claims)) (claims-cover es (t .covers) (q .claims)) (claims-same (q .claims) ∙ t .size)
+      refl (sym (q .lines)) (claims-count es (t .count) (q .claims)) (claims-cover es (t .covers) (q .claims))
 
   -- padding before a place, as the grammar has it
   pub even-place : (at p : ℕ) → p ≡ evenFrom at → p < length im → padded im at p ≡ true → Aligned im 0 at p
@@ -111,17 +107,17 @@ module _ (im : List ℕ) where
   pub record Gone (first : ℕ) (sheet : ℕ) (s : State) (v : Stage) (m : List ℕ) : Type 0 where
     pub here : State
     pub fuel : ℕ
-    pub stands : Stands sheet v m here
+    pub stands : Stands v m here
     pub rest : onComponents im sheet mostFields (componentsFrom im (length im + 1) first) s ≡ onComponents im sheet mostFields (componentsFrom im fuel (evenFrom (v .at))) here
     pub enough : length im < v .at + fuel
 
-  pub record Going (u v : Stage) (old new : List ℕ) : Type 0 where
-    pub go : (sheet : ℕ) (s : State) → sheet ≤ longestSheet → Stands sheet u old s → Gone (evenFrom (u .at)) sheet s v new
+  pub record Going (sheet : ℕ) (u v : Stage) (old new : List ℕ) : Type 0 where
+    pub go : (s : State) → sheet ≤ longestSheet → Stands u old s → Gone (evenFrom (u .at)) sheet s v new
 
-  pub going-start : (u : Stage) (m : List ℕ) → Going u u m m
-  going-start u m = record { go = λ sheet s h t. record { here = s; fuel = length im + 1; stands = t; rest = refl; enough = omega arith } }
+  pub going-start : (sheet : ℕ) (u : Stage) (m : List ℕ) → Going sheet u u m m
+  going-start sheet u m = record { go = λ s h t. record { here = s; fuel = length im + 1; stands = t; rest = refl; enough = omega arith } }
 
-  module _ {v w : Stage} {mid new : List ℕ} (a : Aligned im 0 (v .at) (evenFrom (v .at))) (q : Passes im (evenFrom (v .at)) v w mid new) where
+  module _ {sheet : ℕ} {v w : Stage} {mid new : List ℕ} (a : Aligned im 0 (v .at) (evenFrom (v .at))) (q : Passes im sheet (evenFrom (v .at)) v w mid new) where
     abbrev p : ℕ
     p = evenFrom (v .at)
 
@@ -142,9 +138,9 @@ module _ (im : List ℕ) where
     inside = omega (arith, A .component-reads p reads-none .after, A .component-reads p reads-none .inside)
 
     -- one component, and then the others
-    more-go : (first sheet : ℕ) (s : State) → sheet ≤ longestSheet → lastBit im p ≡ 0 → Gone first sheet s v mid → Gone first sheet s w new
+    more-go : (first : ℕ) (s : State) → sheet ≤ longestSheet → lastBit im p ≡ 0 → Gone first sheet s v mid → Gone first sheet s w new
     unfolding componentsFrom onComponents
-    more-go first sheet s h z g = by (g .fuel) refl
+    more-go first s h z g = by (g .fuel) refl
       where
         by : (k : ℕ) → g .fuel ≡ k → Gone first sheet s w new
         by zero e = absurd (omega (arith, g .enough, inside))
@@ -162,21 +158,21 @@ module _ (im : List ℕ) where
             }
 
     -- the last one
-    last-go : (first sheet : ℕ) (s : State) → sheet ≤ longestSheet → lastBit im p ≡ 1 → Gone first sheet s v mid →
-        Stands sheet w new (onComponents im sheet mostFields (componentsFrom im (length im + 1) first) s)
+    last-go : (first : ℕ) (s : State) → sheet ≤ longestSheet → lastBit im p ≡ 1 → Gone first sheet s v mid →
+        Stands w new (onComponents im sheet mostFields (componentsFrom im (length im + 1) first) s)
     unfolding componentsFrom onComponents
-    last-go first sheet s h z g = by (g .fuel) refl
+    last-go first s h z g = by (g .fuel) refl
       where
-        by : (k : ℕ) → g .fuel ≡ k → Stands sheet w new (onComponents im sheet mostFields (componentsFrom im (length im + 1) first) s)
+        by : (k : ℕ) → g .fuel ≡ k → Stands w new (onComponents im sheet mostFields (componentsFrom im (length im + 1) first) s)
         by zero e = absurd (omega (arith, g .enough, inside))
         by (suc k) e =
             let t = component-stands p (g .here) h a q (g .stands) in
             rw (g .rest, e, if-true [] (componentsFrom im k (componentAt im p .next)) (last-is (componentAt im p .last) refl .1 z), stands-then (onComponent im sheet mostFields p (g .here)) t) t
 
-    pub going-more : {u : Stage} {old : List ℕ} → lastBit im p ≡ 0 → Going u v old mid → Going u w old new
-    going-more {u} z g = record { go = λ sheet s h t. more-go (evenFrom (u .at)) sheet s h z (g .go sheet s h t) }
+    pub going-more : {u : Stage} {old : List ℕ} → lastBit im p ≡ 0 → Going sheet u v old mid → Going sheet u w old new
+    going-more {u} z g = record { go = λ s h t. more-go (evenFrom (u .at)) s h z (g .go s h t) }
 
     pub going-last :
-        {u : Stage} {old : List ℕ} → lastBit im p ≡ 1 → Going u v old mid →
-        Reaches (λ (sheet : ℕ). onComponents im sheet mostFields (componentsFrom im (length im + 1) (evenFrom (u .at)))) u w old new
-    going-last {u} z g = record { reach = λ sheet s h t. last-go (evenFrom (u .at)) sheet s h z (g .go sheet s h t) }
+        {u : Stage} {old : List ℕ} → lastBit im p ≡ 1 → Going sheet u v old mid →
+        Reaches sheet (onComponents im sheet mostFields (componentsFrom im (length im + 1) (evenFrom (u .at)))) u w old new
+    going-last {u} z g = record { reach = λ s h t. last-go (evenFrom (u .at)) s h z (g .go s h t) }

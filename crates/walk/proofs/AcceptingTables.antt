@@ -10,17 +10,16 @@ use Rattle.laws.proofs.Cases.{if-true, if-false, if-eq}
 use Rattle.cmf.specs.Limits.{mostFields, mostLinesOfTable, longestSheet, deepestTable, prologBytes}
 use Rattle.cmf.specs.Readers.{evenFrom, titleAt, headAt}
 use Rattle.cmf.specs.Places.{linesFrom, linesOf, componentsFrom, componentsOf}
-use Rattle.cmf.specs.Grammar.{Head, isLast, hasSubmenu, nextLine, submenuTable}
+use Rattle.cmf.specs.Grammar.{isLast, hasSubmenu, nextLine, submenuTable}
 use Rattle.cmf.specs.declared.title.Title as read-title
-use Rattle.cmf.specs.declared.head.Head as read
 use Rattle.cmf.proofs.Agreement.{Agree, HeadReads}
 use Rattle.cmf.proofs.Agreeing.{agree}
 use Rattle.walk.specs.declared.accept.Stage.{Stage}
 use Rattle.walk.specs.declared.index.Entry.{Entry}
-use Rattle.walk.specs.Check.{State, with, behind, agrees, onComponents, onHead, onTitle, onSubmenu, onBody, onLine, onLines, onTable, start, walked, prologCode, checked, refusalOf}
+use Rattle.walk.specs.Check.{State, onComponents, onHead, onTitle, onSubmenu, onBody, onLine, onLines, onTable, start, walked, prologCode, checked, refusalOf}
 use Rattle.walk.specs.Accept.{Placed, Covers, Stands, Reaches}
 use Rattle.walk.proofs.Stood.{stood}
-use Rattle.walk.proofs.Steps.{title-goes, head-goes, agrees-read}
+use Rattle.walk.proofs.Steps.{title-goes, head-goes}
 use Rattle.walk.proofs.Line.{last-marked, more-marked, submenu-marked, plain-marked}
 use Rattle.walk.proofs.Tables.{lines-last, lines-more}
 use Rattle.walk.proofs.Accepting.{stands-then, stands-at}
@@ -35,27 +34,22 @@ titled w end = record { good = true; at = end; lines = w .lines; fields = w .fie
 abbrev pub returned : Stage → Stage → Stage
 returned body t = record { good = t .good; at = body .at; lines = t .lines; fields = t .fields }
 
-module _ (im : List ℕ) where
+module _ (im : List ℕ) (sheet : ℕ) where
   abbrev A : Agree im
   A = agree im
 
-  abbrev pub parts : ℕ → ℕ → State → State
-  parts first sheet = onComponents im sheet mostFields (componentsFrom im (length im + 1) first)
+  abbrev pub parts : ℕ → State → State
+  parts first = onComponents im sheet mostFields (componentsFrom im (length im + 1) first)
 
-  abbrev pub table : ℕ → ℕ → ℕ → State → State
-  table left t sheet = onTable im sheet mostFields left t
+  abbrev pub table : ℕ → ℕ → State → State
+  table left t = onTable im sheet mostFields left t
 
-  abbrev pub line : ℕ → ℕ → ℕ → ℕ → ℕ → State → State
-  line below n before p sheet = onLine im sheet mostFields (onTable im sheet mostFields below) n before p
-
-  -- ---- a head that is read whole
-
-  pub any-head : {n before p : ℕ} {h : read.Head} → h ≡ headAt im p → h .refusal ≡ 0 → h .good ≡ true → agrees n before p h ≡ true → Head im n before p (h .end)
-  any-head {n} {before} {p} e = rw e (λ z g a. agrees-read im A 0 0 n before p 0 0 [] g (A .head-reads p z) a)
+  abbrev pub line : ℕ → ℕ → ℕ → ℕ → State → State
+  line below n before p = onLine im sheet mostFields (onTable im sheet mostFields below) n before p
 
   -- ---- a line
 
-  module _ {n before p end : ℕ} {w b : Stage} {old mid : List ℕ} (few : n < mostLinesOfTable) (q : Placed im n before p w end) (c : Reaches (parts (evenFrom end)) (headed w end) b old mid) where
+  module _ {n before p end : ℕ} {w b : Stage} {old mid : List ℕ} (few : n < mostLinesOfTable) (q : Placed im n before p w end) (c : Reaches sheet (parts (evenFrom end)) (headed w end) b old mid) where
     pub reads : headAt im p .refusal ≡ 0
     reads = A .head-is (q .head) .refusal
 
@@ -65,66 +59,66 @@ module _ (im : List ℕ) where
     first-component : headAt im p .component ≡ evenFrom end
     first-component = known .component ∙ ap evenFrom (A .head-is (q .head) .ends)
 
-    module _ (sheet : ℕ) (s : State) (h : sheet ≤ longestSheet) (t : Stands sheet w old s) (submenu : ℕ → State → State) where
+    module _ (s : State) (h : sheet ≤ longestSheet) (t : Stands w old s) (submenu : ℕ → State → State) where
       abbrev x : State
       x = onHead im sheet mostFields n before p s
 
       abbrev y : State
       y = onComponents im sheet mostFields (componentsOf im p) x
 
-      head-stands : Stands sheet (headed w end) old x
+      head-stands : Stands (headed w end) old x
       head-stands =
           stands-at x end (w .lines + 1) (s .fields)
           (ap (onHead im sheet mostFields n before p) (t .is) ∙ head-goes im A sheet mostFields n before p end (w .at) (w .lines) (s .fields) (q .head) (q .aligned) few (q .room))
-          refl refl (t .count) (t .covers) (t .size)
+          refl refl (t .count) (t .covers)
 
-      body-stands : Stands sheet b mid y
+      body-stands : Stands b mid y
       unfolding componentsOf
-      body-stands = rw first-component (c .reach sheet x h head-stands)
+      body-stands = rw first-component (c .reach x h head-stands)
 
       -- what is left is the submenu
       line-is : onLine im sheet mostFields submenu n before p s ≡ onSubmenu im sheet mostFields submenu (headAt im p) y
       unfolding onLine onBody
       line-is = stands-then _ head-stands ∙ stands-then _ body-stands
 
-    pub plain-line : (below : ℕ) → hasSubmenu im p ≡ 0 → Reaches (line below n before p) w b old mid
+    pub plain-line : (below : ℕ) → hasSubmenu im p ≡ 0 → Reaches sheet (line below n before p) w b old mid
     unfolding onSubmenu
     plain-line below z = record {
-      reach = λ sheet s h t.
-          rw (line-is sheet s h t (onTable im sheet mostFields below) ∙ if-false _ _ (plain-marked im A known z)) (body-stands sheet s h t (onTable im sheet mostFields below));
+      reach = λ s h t.
+          rw (line-is s h t (onTable im sheet mostFields below) ∙ if-false _ _ (plain-marked im A known z)) (body-stands s h t (onTable im sheet mostFields below));
     }
 
     pub deep-line :
-        (below : ℕ) {r : Stage} {new : List ℕ} → hasSubmenu im p ≡ 1 → Reaches (table below (submenuTable im p)) b r mid new → Reaches (line below n before p) w (returned b r) old new
+        (below : ℕ) {r : Stage} {new : List ℕ} → hasSubmenu im p ≡ 1 → Reaches sheet (table below (submenuTable im p)) b r mid new → Reaches sheet (line below n before p) w (returned b r) old new
     unfolding onSubmenu if_then_else_
     deep-line below {r} {new} z d = record {
-      reach = λ sheet s h t.
-          let u = body-stands sheet s h t (onTable im sheet mostFields below) in
-          let v = d .reach sheet (y sheet s h t (onTable im sheet mostFields below)) h u in
-          stands-at _ (b .at) (r .lines) (onTable im sheet mostFields below (submenuTable im p) (y sheet s h t (onTable im sheet mostFields below)) .fields)
-          (line-is sheet s h t (onTable im sheet mostFields below) ∙ if-true _ _ (submenu-marked im A known z)
+      reach = λ s h t.
+          let u = body-stands s h t (onTable im sheet mostFields below) in
+          let v = d .reach (y s h t (onTable im sheet mostFields below)) h u in
+          stands-at _ (b .at) (r .lines) (onTable im sheet mostFields below (submenuTable im p) (y s h t (onTable im sheet mostFields below)) .fields)
+          (line-is s h t (onTable im sheet mostFields below) ∙ if-true _ _ (submenu-marked im A known z)
           ∙ rw (known .table, ap (λ (o : State). o .walk) (v .is), ap (λ (o : State). o .walk .at) (u .is)) refl)
-          refl refl (v .count) (v .covers) (v .size);
+          refl refl (v .count) (v .covers);
     }
 
   -- ---- the lines of a table: those that are left, done to a state that stands, are the whole
 
   module _ (below first : ℕ) where
-    abbrev lines : ℕ → ℕ → ℕ → List ℕ → State → State
-    lines n before sheet ps = onLines im sheet mostFields (onTable im sheet mostFields below) n before ps
+    abbrev lines : ℕ → ℕ → List ℕ → State → State
+    lines n before ps = onLines im sheet mostFields (onTable im sheet mostFields below) n before ps
 
-    pub record Gone (sheet : ℕ) (s : State) (n before p : ℕ) (v : Stage) (m : List ℕ) : Type 0 where
+    pub record Gone (s : State) (n before p : ℕ) (v : Stage) (m : List ℕ) : Type 0 where
       pub here : State
-      pub stands : Stands sheet v m here
-      pub rest : lines 0 0 sheet (linesFrom im 100 first) s ≡ lines n before sheet (linesFrom im (100 - n) p) here
+      pub stands : Stands v m here
+      pub rest : lines 0 0 (linesFrom im 100 first) s ≡ lines n before (linesFrom im (100 - n) p) here
 
     pub record Going (u : Stage) (old : List ℕ) (n before p : ℕ) (v : Stage) (new : List ℕ) : Type 0 where
-      pub go : (sheet : ℕ) (s : State) → sheet ≤ longestSheet → Stands sheet u old s → Gone sheet s n before p v new
+      pub go : (s : State) → sheet ≤ longestSheet → Stands u old s → Gone s n before p v new
 
     pub going-start : (u : Stage) (m : List ℕ) → Going u m 0 0 first u m
-    going-start u m = record { go = λ sheet s h t. record { here = s; stands = t; rest = refl } }
+    going-start u m = record { go = λ s h t. record { here = s; stands = t; rest = refl } }
 
-    module _ {u : Stage} {old : List ℕ} {n before p : ℕ} {v w : Stage} {mid new : List ℕ} (few : n < mostLinesOfTable) (z : headAt im p .refusal ≡ 0) (c : Reaches (line below n before p) v w mid new) (g : Going u old n before p v mid) where
+    module _ {u : Stage} {old : List ℕ} {n before p : ℕ} {v w : Stage} {mid new : List ℕ} (few : n < mostLinesOfTable) (z : headAt im p .refusal ≡ 0) (c : Reaches sheet (line below n before p) v w mid new) (g : Going u old n before p v mid) where
       one-more : 100 - n ≡ suc (99 - n)
       one-more = omega arith
 
@@ -134,11 +128,11 @@ module _ (im : List ℕ) where
       pub going-more : isLast im p ≡ 0 → Going u old (n + 1) p (nextLine im p) w new
       unfolding onLines
       going-more b = record {
-        go = λ sheet s h t.
-            let o = g .go sheet s h t in
-            let k = c .reach sheet (o .here) h (o .stands) in
+        go = λ s h t.
+            let o = g .go s h t in
+            let k = c .reach (o .here) h (o .stands) in
             record {
-              here = line below n before p sheet (o .here);
+              here = line below n before p (o .here);
               stands = k;
               rest =
                   o .rest
@@ -146,39 +140,39 @@ module _ (im : List ℕ) where
             };
       }
 
-      pub going-last : isLast im p ≡ 1 → Reaches (λ (sheet : ℕ). lines 0 0 sheet (linesFrom im 100 first)) u w old new
+      pub going-last : isLast im p ≡ 1 → Reaches sheet (lines 0 0 (linesFrom im 100 first)) u w old new
       unfolding onLines
       going-last b = record {
-        reach = λ sheet s h t.
-            let o = g .go sheet s h t in
-            let k = c .reach sheet (o .here) h (o .stands) in
-            rw (o .rest, one-more, lines-last im (99 - n) p (last-marked im A (A .head-reads p z) b), stands-then (line below n before p sheet (o .here)) k) k;
+        reach = λ s h t.
+            let o = g .go s h t in
+            let k = c .reach (o .here) h (o .stands) in
+            rw (o .rest, one-more, lines-last im (99 - n) p (last-marked im A (A .head-reads p z) b), stands-then (line below n before p (o .here)) k) k;
       }
 
   -- ---- a table
 
   pub table-reaches :
       (t : ℕ) {left below : ℕ} {title : read-title.Title} {w r : Stage} {old new : List ℕ} → left ≡ suc below → title ≡ titleAt im t → title .refusal ≡ 0 →
-      Reaches (λ (sheet : ℕ). lines below (title .line) 0 0 sheet (linesFrom im 100 (title .line))) (titled w (title .end)) r old new →
-      Reaches (table left t) w r old new
+      Reaches sheet (lines below (title .line) 0 0 (linesFrom im 100 (title .line))) (titled w (title .end)) r old new →
+      Reaches sheet (table left t) w r old new
   unfolding onTable linesOf
   table-reaches t {left} {below} {title} {w} e f z c = record {
-    reach = λ sheet s h k.
+    reach = λ s h k.
         let q : titleAt im t .refusal ≡ 0 = rw f at z in
         let o =
         stands-at (onTitle im sheet mostFields t s) (titleAt im t .end) (w .lines) (s .fields)
         (ap (onTitle im sheet mostFields t) (k .is) ∙ title-goes im A sheet mostFields t (w .at) (w .lines) (s .fields) q) (ap (λ (x : read-title.Title). x .end) (sym f)) refl
-        (k .count) (k .covers) (k .size) in
+        (k .count) (k .covers) in
         rw (e, ← f, stands-then (onLines im sheet mostFields (onTable im sheet mostFields below) 0 0 (linesFrom im 100 (title .line)) (onTitle im sheet mostFields t s)) o)
-        (c .reach sheet (onTitle im sheet mostFields t s) h o);
+        (c .reach (onTitle im sheet mostFields t s) h o);
   }
 
   -- ---- the whole image
 
   pub nothing-refused :
-      (sheet : ℕ) (m new : List ℕ) (r : Stage) → sheet ≤ longestSheet → length m ≡ sheet → prologCode im ≡ 0 →
-      Reaches (table deepestTable prologBytes) (record { good = true; at = 0; lines = 0; fields = 0 }) r m new → refusalOf im sheet ≡ 0
+      (m new : List ℕ) (r : Stage) → sheet ≤ longestSheet → prologCode im ≡ 0 →
+      Reaches sheet (table deepestTable prologBytes) (record { good = true; at = 0; lines = 0; fields = 0 }) r m new → refusalOf im sheet ≡ 0
   unfolding refusalOf checked walked
-  nothing-refused sheet m new r h l p c =
-      let t = c .reach sheet start h (record { is = refl; count = refl; covers = Covers.none; size = l }) in
+  nothing-refused m new r h p c =
+      let t = c .reach start h (record { is = refl; count = refl; covers = Covers.none }) in
       ap (λ (s : State). s .walk .refusal) (if-eq (prologCode im) 0 _ _ p ∙ t .is)

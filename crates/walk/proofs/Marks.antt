@@ -1,24 +1,26 @@
 -- Marks on the sheet's bytes: a field whose bytes are free is apart from every field whose bytes are marked.
-use Prim.Native.Nat.{ℕ, _+_, _-_, _≤_, _<_}
-use mathlib.Core.Path.{_≡_, refl, sym, _∙_}
+use Prim.Native.Nat.{ℕ, _+_, _-_, _*_, _/_, _%_, _^_, _≤_, _<_, max}
+use mathlib.Core.Path.{_≡_, refl, sym, ap, _∙_}
 use mathlib.Core.Bool.{Bool, true}
 use mathlib.Core.List.{List, [], _∷_, _++_}
 use native.Mathlib.Omega.{arith}
-use lib.ListN.{length, getD, set, length-set}
+use lib.ListN.{length, getD, set}
+use lib.Bits.{bitOr, or-step, or-shr}
+use lib.Pow.{shl-exact, shl-shr}
 use lib.Seq.{getD-set-same, getD-set-other}
 use borrow.Author.Tests.{leb-true, leb-false, eqb-true, eqb-false}
 use Rattle.laws.specs.Choice.{_=?_, _≤?_}
 use Rattle.laws.proofs.Cases.{if-ind, by-test, and-i}
 use Rattle.walk.specs.declared.index.Entry.{Entry}
 use Rattle.walk.specs.Check.{apart, apartFrom}
-use Rattle.walk.specs.Accept.{Claimed, Covers}
+use Rattle.walk.specs.Accept.{markAt, Claimed, Covers}
 
 -- every byte of an entry is marked, or none is
 abbrev AllMarked : List ℕ → Entry → Type 0
-AllMarked m e = (i : ℕ) → e .from .0 ≤ i → i < e .from .0 + e .size → getD m i 0 ≡ 1
+AllMarked m e = (i : ℕ) → e .from .0 ≤ i → i < e .from .0 + e .size → markAt m i ≡ 1
 
 abbrev AllFree : List ℕ → Entry → Type 0
-AllFree m e = (i : ℕ) → e .from .0 ≤ i → i < e .from .0 + e .size → getD m i 0 ≡ 1 → ⊥
+AllFree m e = (i : ℕ) → e .from .0 ≤ i → i < e .from .0 + e .size → markAt m i ≡ 1 → ⊥
 
 -- no byte is marked and free
 apart-of : (m : List ℕ) (e f : Entry) → AllFree m e → AllMarked m f → apart e f ≡ true
@@ -45,7 +47,7 @@ covers-apart m e Covers.none a = refl
 covers-apart m e (Covers.add {e = f} b c) a = and-i (apart-of m e f a b) (covers-apart m e c a)
 
 -- marks that stay, and one entry more
-pub covers-kept : (m n : List ℕ) {es : List Entry} → ((i : ℕ) → getD m i 0 ≡ 1 → getD n i 0 ≡ 1) → Covers m es → Covers n es
+pub covers-kept : (m n : List ℕ) {es : List Entry} → ((i : ℕ) → markAt m i ≡ 1 → markAt n i ≡ 1) → Covers m es → Covers n es
 covers-kept m n k Covers.none = Covers.none
 covers-kept m n k (Covers.add b c) = Covers.add (λ i x y. k i (b i x y)) (covers-kept m n k c)
 
@@ -53,47 +55,65 @@ pub covers-add : (m : List ℕ) (e : Entry) {es : List Entry} → Covers m es �
 covers-add m e Covers.none a = Covers.add a Covers.none
 covers-add m e (Covers.add b c) a = Covers.add b (covers-add m e c a)
 
+-- ---- the bits of a word
+
+-- a bit of two words' union is set where it is set in one of them
+or-odd : (a b : ℕ) → bitOr a b % 2 ≡ max (a % 2) (b % 2)
+or-odd a b = omega (arith, or-step a b)
+
+or-bit : (k a b : ℕ) → bitOr a b / 2 ^ k % 2 ≡ max (a / 2 ^ k % 2) (b / 2 ^ k % 2)
+or-bit k a b = ap (λ (x : ℕ). x % 2) (or-shr a b k) ∙ or-odd (a / 2 ^ k) (b / 2 ^ k)
+
+-- the word with one bit
+pub one-bit : (k : ℕ) → k < 64 → (1 * 2 ^ k) % 2 ^ 64 / 2 ^ k % 2 ≡ 1
+one-bit k h = rw (shl-exact {a = 1} 1 k 64 (omega arith) (omega arith), shl-shr 1 k) refl
+
 -- ---- claiming byte by byte
 
 -- nothing is claimed yet
-pub claimed-none : (m : List ℕ) (from : ℕ) → from ≤ length m → Claimed m m from 0
-claimed-none m from h = record {
+pub claimed-none : (sheet : ℕ) (m : List ℕ) (from : ℕ) → from ≤ sheet → Claimed sheet m m from 0
+claimed-none sheet m from h = record {
   inside = omega arith;
   free = λ i a b. absurd (omega arith);
   marked = λ i a b. absurd (omega arith);
   kept = λ i a. a;
-  same = refl;
 }
 
 -- one byte more, which was free
-pub claimed-next :
-    (old new : List ℕ) (from i : ℕ) → from ≤ i → i < length old → getD new i 0 ≡ 0 → Claimed old new from (i - from) →
-    Claimed old (set new i 1) from ((i + 1) - from)
-claimed-next old new from i h l z c = record {
-  inside = omega arith;
-  free = free;
-  marked = marked;
-  kept = kept;
-  same = length-set new i 1 ∙ c .same;
-}
-  where
-    here : getD (set new i 1) i 0 ≡ 1
-    here = getD-set-same new i 1 0 (omega (arith, c .same))
+module _ (sheet : ℕ) (old new : List ℕ) (from i y : ℕ) (l : i / 64 < length new) (b : y / 2 ^ (i % 64) % 2 ≡ 1) where
+  abbrev next : List ℕ
+  next = set new (i / 64) (bitOr (getD new (i / 64) 0) y)
 
-    there : (j : ℕ) → (i ≡ j → ⊥) → getD (set new i 1) j 0 ≡ getD new j 0
-    there j d = getD-set-other new i j 1 0 (λ e. d (sym e))
+  here : markAt next i ≡ 1
+  unfolding markAt
+  here =
+      rw (getD-set-same new (i / 64) (bitOr (getD new (i / 64) 0) y) 0 l, or-bit (i % 64) (getD new (i / 64) 0) y, b)
+      (let z : getD new (i / 64) 0 / 2 ^ (i % 64) % 2 ≤ 1 = omega arith in omega arith)
 
-    free : (j : ℕ) → from ≤ j → j < from + ((i + 1) - from) → getD old j 0 ≡ 1 → ⊥
-    free j a b m =
-        by-test (i =? j)
-        (λ e. let q = eqb-true i j e in let y : getD new i 0 ≡ 1 = c .kept i (rw q m) in omega arith)
-        (λ e. let q = eqb-false i j e in c .free j a (omega arith) m)
+  stays : (j : ℕ) → markAt new j ≡ 1 → markAt next j ≡ 1
+  unfolding markAt
+  stays j m =
+      by-test (i / 64 =? (j / 64))
+      (λ e. let q = eqb-true (i / 64) (j / 64) e in
+      let m′ : getD new (i / 64) 0 / 2 ^ (j % 64) % 2 ≡ 1 = rw q m in
+      rw (← q, getD-set-same new (i / 64) (bitOr (getD new (i / 64) 0) y) 0 l, or-bit (j % 64) (getD new (i / 64) 0) y, m′)
+      (let z : y / 2 ^ (j % 64) % 2 ≤ 1 = omega arith in omega arith))
+      (λ e. let q = eqb-false (i / 64) (j / 64) e in getD-other (λ z. q (sym z)) j m)
+    where
+      getD-other : {k : ℕ} → (k ≡ i / 64 → ⊥) → (j : ℕ) → getD new k 0 / 2 ^ (j % 64) % 2 ≡ 1 → getD next k 0 / 2 ^ (j % 64) % 2 ≡ 1
+      getD-other {k} d j m = rw (getD-set-other new (i / 64) k (bitOr (getD new (i / 64) 0) y) 0 d) m
 
-    marked : (j : ℕ) → from ≤ j → j < from + ((i + 1) - from) → getD (set new i 1) j 0 ≡ 1
-    marked j a b =
-        by-test (i =? j)
-        (λ e. rw (← eqb-true i j e) here)
-        (λ e. let q = eqb-false i j e in there j q ∙ c .marked j a (omega arith))
+  pub claimed-next : from ≤ i → i < sheet → (markAt new i ≡ 1 → ⊥) → Claimed sheet old new from (i - from) → Claimed sheet old next from ((i + 1) - from)
+  claimed-next h s z c = record { inside = omega arith; free = free; marked = marked; kept = λ j m. stays j (c .kept j m) }
+    where
+      free : (j : ℕ) → from ≤ j → j < from + ((i + 1) - from) → markAt old j ≡ 1 → ⊥
+      free j a d m =
+          by-test (i =? j)
+          (λ e. z (c .kept i (rw (eqb-true i j e) m)))
+          (λ e. let q = eqb-false i j e in c .free j a (omega arith) m)
 
-    kept : (j : ℕ) → getD old j 0 ≡ 1 → getD (set new i 1) j 0 ≡ 1
-    kept j m = by-test (i =? j) (λ e. rw (← eqb-true i j e) here) (λ e. there j (eqb-false i j e) ∙ c .kept j m)
+      marked : (j : ℕ) → from ≤ j → j < from + ((i + 1) - from) → markAt next j ≡ 1
+      marked j a d =
+          by-test (i =? j)
+          (λ e. rw (← eqb-true i j e) here)
+          (λ e. let q = eqb-false i j e in stays j (c .marked j a (omega arith)))

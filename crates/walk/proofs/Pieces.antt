@@ -17,8 +17,9 @@ use Rattle.field.specs.Cells.{cellsOf, inSpan, within, legalTo, legal, inRange}
 use Rattle.field.specs.Settings.{goodSettings, settingsFit}
 use Rattle.field.specs.declared.kind.Kind.the-variants.{Option}
 use Rattle.cmf.specs.Limits.{prologBytes}
-use Rattle.cmf.specs.Layouts.{bit, Texts, Component, optionAt}
-use Rattle.cmf.specs.Grammar.{Head, Password, isFirst, isLast, isDynamic, hasSubmenu, submenuTable}
+use Rattle.cmf.specs.Layouts.{bit, Text, Texts, Component, optionAt}
+use Rattle.cmf.specs.Grammar.{Head, Password, Digits, isFirst, isLast, isDynamic, hasSubmenu, previousAt, passwordAt, submenuTable}
+use Rattle.walk.specs.Accept.{Linked}
 
 -- the bits of a tag that is 0 or 2
 record Plain (t : ℕ) : Type 0 where
@@ -45,27 +46,28 @@ module _ (im : List ℕ) where
 
   -- ---- texts that fill the bytes up to an end: what is left of them makes the whole
 
-  pub record Filling (from end count at left most : ℕ) : Type 0 where
-    pub fill : at ≤ end → (longest : ℕ) → Texts im left at end longest → Texts im count from end (max most longest)
+  pub record Filling (from end count at seen most : ℕ) : Type 0 where
+    pub fill : at ≤ end → seen ≤ count → (longest : ℕ) → Texts im (count - seen) at end longest → Texts im count from end (max most longest)
 
-  pub filling-start : (from end count : ℕ) → Filling from end count from count 0
-  filling-start from end count = record { fill = λ _ l t. let z : max 0 l ≡ l = omega arith in rw z t }
+  pub filling-start : (from end count : ℕ) → Filling from end count from 0 0
+  filling-start from end count = record { fill = λ _ _ l t. let z : max 0 l ≡ l = omega arith in let n : count - 0 ≡ count = omega arith in rw z (rw n at t) }
 
   pub filling-next :
-      (from end count at left most next : ℕ) → end ≤ length im → 1 ≤ left → next ≡ max most (byteAt im at) → Filling from end count at left most →
-      Filling from end count (at + 1 + byteAt im at) (left - 1) next
-  filling-next from end count at left most next i h e f = record {
-    fill = λ a l t.
-        let z : left ≡ suc (left - 1) = omega arith in
+      (from end count at seen most next : ℕ) → end ≤ length im → next ≡ max most (byteAt im at) → Filling from end count at seen most →
+      Filling from end count (at + 1 + byteAt im at) (seen + 1) next
+  filling-next from end count at seen most next i e f = record {
+    fill = λ a s l t.
+        let z : count - seen ≡ suc (count - (seen + 1)) = omega arith in
         let m : max next l ≡ max most (max (byteAt im at) l) = omega arith in
-        rw m (f .fill (omega arith) (max (byteAt im at) l)
+        rw m (f .fill (omega arith) (omega arith) (max (byteAt im at) l)
         (rw z (Texts.more (at + 1 + byteAt im at) (record { ends = refl; inside = omega arith }) t)));
   }
 
-  pub filled : (from end count at left most longest : ℕ) → at ≡ end → left ≡ 0 → most ≡ longest → Filling from end count at left most → Texts im count from end longest
-  filled from end count at left most longest a z m f =
+  pub filled : (from end count at seen most longest : ℕ) → at ≡ end → seen ≡ count → most ≡ longest → Filling from end count at seen most → Texts im count from end longest
+  filled from end count at seen most longest a z m f =
       let q : longest ≡ max most 0 = omega arith in
-      rw q (f .fill (omega arith) 0 (rw (z, a) Texts.none))
+      let n : count - seen ≡ 0 = omega arith in
+      rw q (f .fill (omega arith) (omega arith) 0 (rw (n, a) Texts.none))
 
   -- ---- an option
 
@@ -110,3 +112,51 @@ module _ (im : List ℕ) where
   -- where a submenu's table stands
   pub submenu-is : (p : ℕ) → prologBytes + wordAt im (p + 1 + 2 * (1 - byteAt im p / 2 % 2) + 2 * (1 - byteAt im p % 2) + 2 * (byteAt im p / 4 % 2)) ≡ submenuTable im p
   submenu-is p = let z : byteAt im p % 2 ≡ isFirst im p = omega arith in rw z
+
+  -- ---- a head by its tag
+
+  -- the first mark and the pointer back, told by the tag
+  pub linked-first : (before p : ℕ) → byteAt im p % 2 ≡ 1 → Linked im 0 before p
+  linked-first before p e = record { first = λ _. omega arith; later = λ l. absurd (omega arith); previous = λ l. absurd (omega arith) }
+
+  pub linked-later :
+      (n before p : ℕ) → (n ≡ 0 → ⊥) → (byteAt im p % 2 ≡ 1 → ⊥) → before ≤ p → wordAt im (previousAt im p) ≡ p - before → Linked im n before p
+  linked-later n before p z e b w = record { first = λ f. absurd (z f); later = λ _. omega arith; previous = λ _. omega arith }
+
+  pub options-is : (p : ℕ) → p + 1 + 2 * (1 - byteAt im p / 2 % 2) + 2 * (1 - byteAt im p % 2) + 2 * (byteAt im p / 4 % 2) + 2 * (byteAt im p / 8 % 2) ≡ passwordAt im p
+  options-is p = let z : byteAt im p % 2 ≡ isFirst im p = omega arith in rw z
+
+  -- a head without a password, and one with it
+  low-tag : (t : ℕ) → t < 16 → bit 4 t ≡ 0
+  low-tag t h = omega arith
+
+  high-tag : (t : ℕ) → 16 ≤ t → t < 32 → bit 4 t ≡ 1
+  high-tag t a b = omega arith
+
+  pub open-head : (n before p : ℕ) → passwordAt im p ≤ length im → byteAt im p < 16 → Linked im n before p → Head im n before p (passwordAt im p)
+  open-head n before p i t k =
+      let z = low-tag (byteAt im p) t in
+      record {
+        inside = i;
+        password = Password.none z refl;
+        tag = omega arith;
+        protects = rw z (omega arith);
+        first = k .first;
+        later = k .later;
+        previous = k .previous;
+      }
+
+  pub locked-head :
+      (n before p end : ℕ) → passwordAt im p ≤ length im → 16 ≤ byteAt im p → byteAt im p < 32 → hasSubmenu im p ≡ 1 → Linked im n before p →
+      Text im (passwordAt im p) end → Digits im (passwordAt im p) → Head im n before p end
+  locked-head n before p end i a b s k t d =
+      let z = high-tag (byteAt im p) a b in
+      record {
+        inside = i;
+        password = Password.some z t d;
+        tag = b;
+        protects = rw (z, s) (omega arith);
+        first = k .first;
+        later = k .later;
+        previous = k .previous;
+      }

@@ -85,8 +85,7 @@ module _ (im : List ℕ) (A : Agree im) (sheet most : ℕ) where
     abbrev P : Walk → Type 0
     P w = fine (with s w) ≡ true → Headed n before p at lines
 
-    -- a head whose marks agree with its place is the grammar's
-    pub agrees-read : headAt im p .good ≡ true → HeadReads im p → agrees n before p (headAt im p) ≡ true → Head im n before p (headAt im p .end)
+    agrees-read : headAt im p .good ≡ true → HeadReads im p → agrees n before p (headAt im p) ≡ true → Head im n before p (headAt im p .end)
     unfolding agrees
     agrees-read g r =
         if-ind (λ (b : Bool). b ≡ true → Head im n before p (headAt im p .end)) (n =? 0)

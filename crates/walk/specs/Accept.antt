@@ -1,29 +1,39 @@
 -- What the quick walk knows where it has no doubt: how far the walk of the check would have come, with marks on the sheet's bytes in place of the fields.
-use Prim.Native.Nat.{ℕ, _+_, _≤_, _<_}
+use Prim.Native.Nat.{ℕ, _+_, _/_, _%_, _^_, _≤_, _<_}
 use mathlib.Core.Path.{_≡_}
 use mathlib.Core.List.{List, [], _∷_}
 use lib.ListN.{length, getD}
+use Rattle.laws.specs.Bytes.{wordAt}
 use Rattle.field.specs.Sheet.{sizeOf}
 use Rattle.field.specs.declared.record.Field.{Field}
 use Rattle.cmf.specs.Limits.{mostFields, mostLines, longestSheet}
 use Rattle.cmf.specs.Layouts.{Aligned, Component}
-use Rattle.cmf.specs.Grammar.{Head}
+use Rattle.cmf.specs.Grammar.{isFirst, previousAt, Head}
 use Rattle.walk.specs.Check.{State, state}
 use Rattle.walk.specs.declared.accept.Stage.{Stage}
 use Rattle.walk.specs.declared.index.Entry.{Entry}
 
+-- whether byte i of the sheet is marked: its bit, 1 or 0, in words of 64
+unfoldable pub markAt : List ℕ → ℕ → ℕ
+markAt marks i = getD marks (i / 64) 0 / 2 ^ (i % 64) % 2
+
 -- bytes of the sheet that were free are marked, and what was marked stays so
-pub record Claimed (old new : List ℕ) (from size : ℕ) : Type 0 where
-  pub inside : from + size ≤ length old
-  pub free : (i : ℕ) → from ≤ i → i < from + size → getD old i 0 ≡ 1 → ⊥
-  pub marked : (i : ℕ) → from ≤ i → i < from + size → getD new i 0 ≡ 1
-  pub kept : (i : ℕ) → getD old i 0 ≡ 1 → getD new i 0 ≡ 1
-  pub same : length new ≡ length old
+pub record Claimed (sheet : ℕ) (old new : List ℕ) (from size : ℕ) : Type 0 where
+  pub inside : from + size ≤ sheet
+  pub free : (i : ℕ) → from ≤ i → i < from + size → markAt old i ≡ 1 → ⊥
+  pub marked : (i : ℕ) → from ≤ i → i < from + size → markAt new i ≡ 1
+  pub kept : (i : ℕ) → markAt old i ≡ 1 → markAt new i ≡ 1
 
 -- the field of a component, if it is one, is counted, and its bytes are marked
-pub data Claims (old new : List ℕ) (before after : ℕ) : List Field → Type 0 where
-  none : new ≡ old → after ≡ before → Claims old new before after []
-  one : {f : Field} → before < mostFields → after ≡ before + 1 → Claimed old new (f .sheet .0) (sizeOf f) → Claims old new before after (f ∷ [])
+pub data Claims (sheet : ℕ) (old new : List ℕ) (before after : ℕ) : List Field → Type 0 where
+  none : new ≡ old → after ≡ before → Claims sheet old new before after []
+  one : {f : Field} → before < mostFields → after ≡ before + 1 → Claimed sheet old new (f .sheet .0) (sizeOf f) → Claims sheet old new before after (f ∷ [])
+
+-- R8: the mark of the first and the pointer back, as the grammar's Head asks them
+pub record Linked (im : List ℕ) (n before p : ℕ) : Type 0 where
+  pub first : n ≡ 0 → isFirst im p ≡ 1
+  pub later : 0 < n → isFirst im p ≡ 0
+  pub previous : 0 < n → before + wordAt im (previousAt im p) ≡ p
 
 -- a line's head that the grammar has, where the walk stands
 pub record Placed (im : List ℕ) (n before p : ℕ) (w : Stage) (end : ℕ) : Type 0 where
@@ -33,26 +43,25 @@ pub record Placed (im : List ℕ) (n before p : ℕ) (w : Stage) (end : ℕ) : T
   pub head : Head im n before p end
 
 -- a component that the grammar has
-pub record Passes (im : List ℕ) (p : ℕ) (v w : Stage) (old new : List ℕ) : Type 0 where
+pub record Passes (im : List ℕ) (sheet p : ℕ) (v w : Stage) (old new : List ℕ) : Type 0 where
   pub fields : List Field
   pub component : Component im p (w .at) fields
   pub lines : w .lines ≡ v .lines
-  pub claims : Claims old new (v .fields) (w .fields) fields
+  pub claims : Claims sheet old new (v .fields) (w .fields) fields
 
 -- every byte of the entries is marked
 pub data Covers (marks : List ℕ) : List Entry → Type 0 where
   none : Covers marks []
   add :
-      {e : Entry} {es : List Entry} → ((i : ℕ) → e .from .0 ≤ i → i < e .from .0 + e .size → getD marks i 0 ≡ 1) → Covers marks es →
+      {e : Entry} {es : List Entry} → ((i : ℕ) → e .from .0 ≤ i → i < e .from .0 + e .size → markAt marks i ≡ 1) → Covers marks es →
       Covers marks (e ∷ es)
 
--- a state of the check, for a sheet of so many bytes, that has refused nothing and has come as far
-pub record Stands (sheet : ℕ) (w : Stage) (marks : List ℕ) (s : State) : Type 0 where
+-- a state of the check that has refused nothing and has come as far
+pub record Stands (w : Stage) (marks : List ℕ) (s : State) : Type 0 where
   pub is : s ≡ state (record { refusal = 0; at = w .at; lines = w .lines; fields = length (s .fields) }) (s .fields)
   pub count : length (s .fields) ≡ w .fields
   pub covers : Covers marks (s .fields)
-  pub size : length marks ≡ sheet
 
--- a stretch of the check's walk goes from one stage to another
-pub record Reaches (stretch : ℕ → State → State) (v w : Stage) (old new : List ℕ) : Type 0 where
-  pub reach : (sheet : ℕ) (s : State) → sheet ≤ longestSheet → Stands sheet v old s → Stands sheet w new (stretch sheet s)
+-- a stretch of the check's walk, for a sheet of so many bytes, goes from one stage to another
+pub record Reaches (sheet : ℕ) (stretch : State → State) (v w : Stage) (old new : List ℕ) : Type 0 where
+  pub reach : (s : State) → sheet ≤ longestSheet → Stands v old s → Stands w new (stretch s)

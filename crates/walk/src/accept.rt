@@ -3,26 +3,27 @@
 ghost use mathlib.Core.Path.{_≡_};
 ghost use mathlib.Core.Bool.{true, false};
 ghost use mathlib.Core.List.{[], _∷_};
-ghost use Prim.Native.Nat.{ℕ, _+_, _%_, _<_, _≤_};
+ghost use Prim.Native.Nat.{ℕ, _+_, _%_, _<_, _≤_, max};
 ghost use lib.ListN.{length};
 ghost use Rattle.laws.specs.Bytes.{byteAt, wordAt};
 ghost use Rattle.cmf.specs.Limits.{mostFields, mostLinesOfTable};
 ghost use Rattle.cmf.specs.Readers.{evenFrom, headAt};
 ghost use Rattle.cmf.specs.Places.{componentsFrom};
-ghost use Rattle.cmf.specs.Layouts.{Aligned, Texts, Component, optionAt};
-ghost use Rattle.cmf.specs.Grammar.{Head, passwordAt, hasSubmenu, submenuTable};
+ghost use Rattle.cmf.specs.Layouts.{Aligned, Text, Texts, Component, optionAt};
+ghost use Rattle.cmf.specs.Grammar.{Digits, Head, passwordAt, hasSubmenu, submenuTable};
 ghost use Rattle.walk.specs.Check.{onComponents, onLine, onTable, refusalOf};
-ghost use Rattle.walk.specs.Accept.{Claimed, Placed, Passes, Reaches};
+ghost use Rattle.walk.specs.Accept.{Claimed, Linked, Placed, Passes, Reaches};
 use crate::check::check;
-use crate::check::is_agreeing;
 use crate::check::is_padded;
 use crate::check::prolog_code;
 use cmf::component::read_component;
-use cmf::head::read_head;
 use cmf::image::Image;
-use cmf::text::larger;
+use cmf::text::password_fits;
 use cmf::title::read_title;
 use field::table::profile_of;
+
+// Words with a bit for each byte that a sheet may have, and for the place behind the last.
+const WORDS: usize = Image::MAX_SHEET / 64 + 1;
 
 // How far the walk came: where the last thing ended, how many lines and fields there are. Not good: something gave it doubt.
 pub struct Stage {
@@ -54,22 +55,26 @@ fn word(image: &[u8], at: usize) -> usize
 }
 
 // Marks bytes of the sheet; not if one of them is marked or is not there.
-fn claim(marks: &mut [u8], from: usize, size: usize) -> bool
-    ensures { λ r. ⌜ (r ≡ true → Claimed (now (marks .entry)) (now (marks .exit)) from size) ⌝ }
+fn claim(marks: &mut [u64], sheet: usize, from: usize, size: usize) -> bool
+    ensures { λ r. ⌜ (r ≡ true → Claimed sheet (now (marks .entry)) (now (marks .exit)) from size) ⌝ }
 {
-    if marks.len() < from {
+    if sheet < from {
         return false;
     }
-    if marks.len() - from < size {
+    if sheet - from < size {
         return false;
     }
     let end = from + size;
+    if marks.len() <= end / 64 {
+        return false;
+    }
     let mut i = from;
     while i < end {
-        if marks[i] != 0 {
+        let word = marks[i / 64];
+        if (word >> (i % 64)) % 2 == 1 {
             return false;
         }
-        marks[i] = 1;
+        marks[i / 64] = word | (1 << (i % 64));
         i = i + 1;
     }
     true
@@ -90,30 +95,33 @@ fn string_end(image: &[u8], at: usize) -> usize
     end
 }
 
+fn longer(a: usize, b: usize) -> usize
+    ensures { λ r. ⌜ r ≡ max a b ⌝ }
+{
+    if a < b { b } else { a }
+}
+
 // Whether so many texts from a place on fill the bytes up to another, and the longest has so many.
 fn is_filled(image: &[u8], from: usize, end: usize, count: u8, longest: u8) -> bool
     requires { ⌜ end ≤ length (now image) ⌝ }
     ensures { λ r. ⌜ (r ≡ true → Texts (now (image .entry)) count from end longest) ⌝ }
 {
     let mut at = from;
-    let mut left = count;
-    let mut most: u8 = 0;
+    let mut seen = 0;
+    let mut most = 0;
     while at < end {
-        if left == 0 {
-            return false;
-        }
-        let n = image[at];
-        at = at + 1 + n as usize;
-        most = larger(most, n);
-        left = left - 1;
+        let n = image[at] as usize;
+        at = at + 1 + n;
+        most = longer(most, n);
+        seen = seen + 1;
     }
     if at != end {
         return false;
     }
-    if left != 0 {
+    if seen != count as usize {
         return false;
     }
-    most == longest
+    most == longest as usize
 }
 
 // Where the option at a place ends; 0 in doubt.
@@ -139,15 +147,15 @@ fn option_end(image: &[u8], at: usize) -> usize
     0
 }
 
-fn accept_option(image: &[u8], p: usize, w: Stage, marks: &mut [u8]) -> Stage
+fn accept_option(image: &[u8], sheet: usize, p: usize, w: Stage, marks: &mut [u64]) -> Stage
     requires { ⌜ (p < length (now image)) × ((byteAt (now image) p % 32 ≡ 0x14) × (w .fields < mostFields)) ⌝ }
-    ensures { λ r. ⌜ (r .good ≡ true → Passes (now (image .entry)) p w r (now (marks .entry)) (now (marks .exit))) ⌝ }
+    ensures { λ r. ⌜ (r .good ≡ true → Passes (now (image .entry)) sheet p w r (now (marks .entry)) (now (marks .exit))) ⌝ }
 {
     let end = option_end(image, p);
     if end == 0 {
         return Stage::doubt();
     }
-    let good = claim(&mut *marks, word(image, p + 4), 1);
+    let good = claim(&mut *marks, sheet, word(image, p + 4), 1);
     Stage {
         good,
         at: end,
@@ -157,9 +165,9 @@ fn accept_option(image: &[u8], p: usize, w: Stage, marks: &mut [u8]) -> Stage
 }
 
 // A field of any kind.
-fn accept_any(image: &[u8], p: usize, w: Stage, marks: &mut [u8]) -> Stage
+fn accept_any(image: &[u8], sheet: usize, p: usize, w: Stage, marks: &mut [u64]) -> Stage
     requires { ⌜ w .fields < mostFields ⌝ }
-    ensures { λ r. ⌜ (r .good ≡ true → Passes (now (image .entry)) p w r (now (marks .entry)) (now (marks .exit))) ⌝ }
+    ensures { λ r. ⌜ (r .good ≡ true → Passes (now (image .entry)) sheet p w r (now (marks .entry)) (now (marks .exit))) ⌝ }
 {
     let c = read_component(image, p);
     if c.refusal != 0 {
@@ -170,7 +178,12 @@ fn accept_any(image: &[u8], p: usize, w: Stage, marks: &mut [u8]) -> Stage
     }
     let field = c.field;
     let kind = field.kind;
-    let good = claim(&mut *marks, field.sheet.0, profile_of(kind).bytes as usize);
+    let good = claim(
+        &mut *marks,
+        sheet,
+        field.sheet.0,
+        profile_of(kind).bytes as usize,
+    );
     Stage {
         good,
         at: c.end,
@@ -179,23 +192,23 @@ fn accept_any(image: &[u8], p: usize, w: Stage, marks: &mut [u8]) -> Stage
     }
 }
 
-fn accept_field(image: &[u8], p: usize, w: Stage, marks: &mut [u8]) -> Stage
+fn accept_field(image: &[u8], sheet: usize, p: usize, w: Stage, marks: &mut [u64]) -> Stage
     requires { ⌜ p < length (now image) ⌝ }
-    ensures { λ r. ⌜ (r .good ≡ true → Passes (now (image .entry)) p w r (now (marks .entry)) (now (marks .exit))) ⌝ }
+    ensures { λ r. ⌜ (r .good ≡ true → Passes (now (image .entry)) sheet p w r (now (marks .entry)) (now (marks .exit))) ⌝ }
 {
     if Image::MAX_FIELDS <= w.fields {
         return Stage::doubt();
     }
     if image[p] % 32 == 0x14 {
-        return accept_option(image, p, w, &mut *marks);
+        return accept_option(image, sheet, p, w, &mut *marks);
     }
-    accept_any(image, p, w, &mut *marks)
+    accept_any(image, sheet, p, w, &mut *marks)
 }
 
 // The component at p, which is the first even place behind where the walk stands.
-fn accept_component(image: &[u8], p: usize, w: Stage, marks: &mut [u8]) -> Stage
+fn accept_component(image: &[u8], sheet: usize, p: usize, w: Stage, marks: &mut [u64]) -> Stage
     requires { ⌜ (p < length (now image)) × (p ≡ evenFrom (w .at)) ⌝ }
-    ensures { λ r. ⌜ (r .good ≡ true → Aligned (now (image .entry)) 0 (w .at) p × Passes (now (image .entry)) p w r (now (marks .entry)) (now (marks .exit))) ⌝ }
+    ensures { λ r. ⌜ (r .good ≡ true → Aligned (now (image .entry)) 0 (w .at) p × Passes (now (image .entry)) sheet p w r (now (marks .entry)) (now (marks .exit))) ⌝ }
 {
     let zero = is_padded(image, w.at, p);
     if !zero {
@@ -210,12 +223,12 @@ fn accept_component(image: &[u8], p: usize, w: Stage, marks: &mut [u8]) -> Stage
             fields: w.fields,
         };
     }
-    accept_field(image, p, w, &mut *marks)
+    accept_field(image, sheet, p, w, &mut *marks)
 }
 
 // The components of a line whose head ends where the walk stands.
-fn accept_components(image: &[u8], w: Stage, marks: &mut [u8]) -> Stage
-    ensures { λ r. ⌜ (r .good ≡ true → Reaches (λ sheet. onComponents (now (image .entry)) sheet mostFields (componentsFrom (now (image .entry)) (length (now (image .entry)) + 1) (evenFrom (w .at)))) w r (now (marks .entry)) (now (marks .exit))) ⌝ }
+fn accept_components(image: &[u8], sheet: usize, w: Stage, marks: &mut [u64]) -> Stage
+    ensures { λ r. ⌜ (r .good ≡ true → Reaches sheet (onComponents (now (image .entry)) sheet mostFields (componentsFrom (now (image .entry)) (length (now (image .entry)) + 1) (evenFrom (w .at)))) w r (now (marks .entry)) (now (marks .exit))) ⌝ }
 {
     let mut v = w;
     while v.at < image.len() {
@@ -223,7 +236,7 @@ fn accept_components(image: &[u8], w: Stage, marks: &mut [u8]) -> Stage
         if image.len() <= p {
             return Stage::doubt();
         }
-        v = accept_component(image, p, v, &mut *marks);
+        v = accept_component(image, sheet, p, v, &mut *marks);
         if !v.good {
             return v;
         }
@@ -249,20 +262,70 @@ fn plain_end(image: &[u8], before: usize, p: usize) -> usize
     0
 }
 
+// Whether the mark of the first and the pointer back of the line at p agree with its place; n lines of its table come before it.
+fn is_linked(image: &[u8], n: usize, before: usize, p: usize) -> bool
+    requires { ⌜ (passwordAt (now image) p ≤ length (now image)) × (before ≤ p) ⌝ }
+    ensures { λ r. ⌜ (r ≡ true → Linked (now (image .entry)) n before p) ⌝ }
+{
+    let tag = image[p] as usize;
+    if n == 0 {
+        return tag % 2 == 1;
+    }
+    if tag % 2 == 1 {
+        return false;
+    }
+    word(image, p + 1 + 2 * (1 - tag / 2 % 2)) == p - before
+}
+
+// Where the password at a place ends; 0 in doubt.
+fn password_end(image: &[u8], at: usize) -> usize
+    ensures { λ r. ⌜ (0 < r → Text (now (image .entry)) at r × Digits (now (image .entry)) at) ⌝ }
+{
+    if image.len() <= at {
+        return 0;
+    }
+    let end = at + 1 + image[at] as usize;
+    if image.len() < end {
+        return 0;
+    }
+    let good = password_fits(image, at);
+    if good {
+        return end;
+    }
+    0
+}
+
+// Where the options of the line at p end, without its password.
+fn options_end(image: &[u8], p: usize) -> usize
+    requires { ⌜ p < length (now image) ⌝ }
+    ensures { λ r. ⌜ (r ≡ passwordAt (now (image .entry)) p) × (r ≤ p + 9) ⌝ }
+{
+    let tag = image[p] as usize;
+    p + 1 + 2 * (1 - tag / 2 % 2) + 2 * (1 - tag % 2) + 2 * (tag / 4 % 2) + 2 * (tag / 8 % 2)
+}
+
 // Where the head of any line ends, with n lines of its table before it; 0 in doubt.
 fn any_end(image: &[u8], n: usize, before: usize, p: usize) -> usize
+    requires { ⌜ (p < length (now image)) × (before ≤ p) ⌝ }
     ensures { λ r. ⌜ (0 < r → Head (now (image .entry)) n before p r) ⌝ }
 {
-    let h = read_head(image, p);
-    if h.refusal != 0 {
+    let tag = image[p];
+    let end = options_end(image, p);
+    if image.len() < end {
         return 0;
     }
-    if !h.good {
+    let linked = is_linked(image, n, before, p);
+    if !linked {
         return 0;
     }
-    let agrees = is_agreeing(n, before, p, h);
-    if agrees {
-        return h.end;
+    if tag < 16 {
+        return end;
+    }
+    if 32 <= tag {
+        return 0;
+    }
+    if tag / 8 % 2 == 1 {
+        return password_end(image, end);
     }
     0
 }
@@ -318,15 +381,16 @@ fn submenu_of(image: &[u8], p: usize) -> usize
 // A line at p, with n lines of its table before it; `below` levels are left for its submenu.
 fn accept_line(
     image: &[u8],
+    sheet: usize,
     below: usize,
     n: usize,
     before: usize,
     p: usize,
     w: Stage,
-    marks: &mut [u8],
+    marks: &mut [u64],
 ) -> Stage
     requires { ⌜ (n < mostLinesOfTable) × (before ≤ p) ⌝ }
-    ensures { λ r. ⌜ (r .good ≡ true → (headAt (now (image .entry)) p .refusal ≡ 0) × (passwordAt (now (image .entry)) p ≤ length (now (image .entry))) × Reaches (λ sheet. onLine (now (image .entry)) sheet mostFields (onTable (now (image .entry)) sheet mostFields below) n before p) w r (now (marks .entry)) (now (marks .exit))) ⌝ }
+    ensures { λ r. ⌜ (r .good ≡ true → (headAt (now (image .entry)) p .refusal ≡ 0) × (passwordAt (now (image .entry)) p ≤ length (now (image .entry))) × Reaches sheet (onLine (now (image .entry)) sheet mostFields (onTable (now (image .entry)) sheet mostFields below) n before p) w r (now (marks .entry)) (now (marks .exit))) ⌝ }
 {
     let end = accept_head(image, n, before, p, w);
     if end == 0 {
@@ -338,12 +402,12 @@ fn accept_line(
         lines: w.lines + 1,
         fields: w.fields,
     };
-    let body = accept_components(image, head, &mut *marks);
+    let body = accept_components(image, sheet, head, &mut *marks);
     if !body.good {
         return body;
     }
     if image[p] / 8 % 2 == 1 {
-        let t = accept_table(image, below, submenu_of(image, p), body, &mut *marks);
+        let t = accept_table(image, sheet, below, submenu_of(image, p), body, &mut *marks);
         return Stage {
             good: t.good,
             at: body.at,
@@ -355,8 +419,15 @@ fn accept_line(
 }
 
 // The table at a place; `left` levels are left, its own among them.
-fn accept_table(image: &[u8], left: usize, table: usize, w: Stage, marks: &mut [u8]) -> Stage
-    ensures { λ r. ⌜ (r .good ≡ true → Reaches (λ sheet. onTable (now (image .entry)) sheet mostFields left table) w r (now (marks .entry)) (now (marks .exit))) ⌝ }
+fn accept_table(
+    image: &[u8],
+    sheet: usize,
+    left: usize,
+    table: usize,
+    w: Stage,
+    marks: &mut [u64],
+) -> Stage
+    ensures { λ r. ⌜ (r .good ≡ true → Reaches sheet (onTable (now (image .entry)) sheet mostFields left table) w r (now (marks .entry)) (now (marks .exit))) ⌝ }
 {
     let title = read_title(image, table);
     if title.refusal != 0 {
@@ -376,7 +447,7 @@ fn accept_table(image: &[u8], left: usize, table: usize, w: Stage, marks: &mut [
     let mut before = 0;
     let mut p = title.line;
     while n < Image::MAX_TABLE_LINES {
-        v = accept_line(image, below, n, before, p, v, &mut *marks);
+        v = accept_line(image, sheet, below, n, before, p, v, &mut *marks);
         if !v.good {
             return v;
         }
@@ -401,7 +472,7 @@ fn is_accepted(image: &[u8], sheet: usize) -> bool
     if Image::MAX_SHEET < sheet {
         return false;
     }
-    let mut marks = [0u8; Image::MAX_SHEET];
+    let mut marks = [0u64; WORDS];
     let start = Stage {
         good: true,
         at: 0,
@@ -410,10 +481,11 @@ fn is_accepted(image: &[u8], sheet: usize) -> bool
     };
     let end = accept_table(
         image,
+        sheet,
         Image::MAX_DEPTH,
         Image::PROLOG,
         start,
-        &mut marks[..sheet],
+        &mut marks,
     );
     end.good
 }

@@ -49,7 +49,7 @@ fn take_title(t: Title, w: Walk) -> Walk
 }
 
 // Whether a line's first mark and pointer back agree with the walk; n lines of its table come before it.
-pub(crate) fn is_agreeing(n: usize, before: usize, p: usize, h: Head) -> bool
+fn is_agreeing(n: usize, before: usize, p: usize, h: Head) -> bool
     ensures { λ r. ⌜ r ≡ agrees n before p h ⌝ }
 {
     if n == 0 {

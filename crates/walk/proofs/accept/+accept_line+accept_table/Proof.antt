@@ -1,11 +1,11 @@
 -- A line is head, components and submenu; the lines that are left, done to a state that stands, are the whole. The depth left falls.
-use native.Mathlib.Omega.{arith}
 use mathlib.Core.Path.{_≡_, refl, _∙_}
 use lib.ListN.{length}
-use borrow.Author.Needs.{needs}
 use borrow.Author.Tests.{not-true, not-false}
 use Rattle.walk.proofs.Stood.{clash}
 use Rattle.walk.proofs.AcceptingTables.{reads, plain-line, deep-line, Going, going-start, going-more, going-last, table-reaches}
+use native.Mathlib.Omega.{arith}
+use borrow.Author.Needs.{needs}
 use Prim.Native.Nat.{ℕ, _+_, _-_, _<_, _≤_}
 use borrow.Fn.Kinds.{In}
 use borrow.Fn.PlainCycle.{Measures, is, falls, and}
@@ -25,10 +25,10 @@ use Rattle.walk.proofs.accept.+accept_line+accept_table.{statement}
 use Rattle.walk.proofs.accept.+accept_line+accept_table.Tie.{close}
 
 abbrev μ-accept-line : Measures 2 accept-line-kinds.ps ℕ
-μ-accept-line κs a = a .1 .0 + a .1 .0 + 1
+μ-accept-line κs a = a .1 .1 .0 + a .1 .1 .0 + 1
 
 abbrev μ-accept-table : Measures 2 accept-table-kinds.ps ℕ
-μ-accept-table κs a = a .1 .0 + a .1 .0
+μ-accept-table κs a = a .1 .1 .0 + a .1 .1 .0
 
 abbrev accept-line-at : ℕ → In 2 accept-line-kinds.ps
 accept-line-at t =
@@ -50,7 +50,7 @@ accept-table-below t =
     (falls 2 accept-table-kinds.ps _<_ μ-accept-table t)
     accept-table.Pre
 
--- src/accept.rt:331:9
+-- src/accept.rt:401:9
 accept-line-accept-head-requires : (t : ℕ) → accept-line-lts.Need-accept-head-requires (
   accept-head-reads.Asked,
   accept-head-reads.Learnt,
@@ -65,7 +65,7 @@ accept-line-accept-head-requires : (t : ℕ) → accept-line-lts.Need-accept-hea
 ) (accept-line-at t) accept-line.Post
 accept-line-accept-head-requires t c κs = c .before .before .pre .1 .1
 
--- src/accept.rt:333:9
+-- src/accept.rt:403:9
 accept-line-doubt-requires : (t : ℕ) → accept-line-lts.Need-doubt-requires (
   accept-head-reads.Asked,
   accept-head-reads.Learnt,
@@ -80,7 +80,7 @@ accept-line-doubt-requires : (t : ℕ) → accept-line-lts.Need-doubt-requires (
 ) (accept-line-at t) accept-line.Post
 accept-line-doubt-requires t c κs = search needs
 
--- src/accept.rt:333:9
+-- src/accept.rt:403:9
 accept-line-returns : (t : ℕ) → accept-line-lts.Need-returns (
   accept-head-reads.Asked,
   accept-head-reads.Learnt,
@@ -95,8 +95,8 @@ accept-line-returns : (t : ℕ) → accept-line-lts.Need-returns (
 ) (accept-line-at t) accept-line.Post
 accept-line-returns t c = λ e. clash e (c .doubt .ensures)
 
--- src/accept.rt:338:16
-accept-line-add-t13 : (t : ℕ) → accept-line-lts.Need-add-t13 (
+-- src/accept.rt:408:16
+accept-line-add-t14 : (t : ℕ) → accept-line-lts.Need-add-t14 (
   accept-head-reads.Asked,
   accept-head-reads.Learnt,
   doubt-reads.Asked,
@@ -108,9 +108,9 @@ accept-line-add-t13 : (t : ℕ) → accept-line-lts.Need-add-t13 (
   accept-table-below t,
   accept-table.Post,
 ) (accept-line-at t) accept-line.Post
-accept-line-add-t13 t c = omega (arith, c .before .before .accept-head .ensures (omega arith) .room)
+accept-line-add-t14 t c = omega (arith, c .before .before .accept-head .ensures (omega arith) .room)
 
--- src/accept.rt:341:9
+-- src/accept.rt:411:9
 accept-line-accept-components-requires : (t : ℕ) → accept-line-lts.Need-accept-components-requires (
   accept-head-reads.Asked,
   accept-head-reads.Learnt,
@@ -125,7 +125,7 @@ accept-line-accept-components-requires : (t : ℕ) → accept-line-lts.Need-acce
 ) (accept-line-at t) accept-line.Post
 accept-line-accept-components-requires t c κs = search needs
 
--- src/accept.rt:343:9
+-- src/accept.rt:413:9
 accept-line-same-length : (t : ℕ) → accept-line-lts.Need-same-length (
   accept-head-reads.Asked,
   accept-head-reads.Learnt,
@@ -138,9 +138,9 @@ accept-line-same-length : (t : ℕ) → accept-line-lts.Need-same-length (
   accept-table-below t,
   accept-table.Post,
 ) (accept-line-at t) accept-line.Post
-accept-line-same-length t c = c .before .before .before .before .accept-components .kept .1 .1 .0
+accept-line-same-length t c = c .before .before .before .before .accept-components .kept .1 .1 .1 .0
 
--- src/accept.rt:343:9
+-- src/accept.rt:413:9
 accept-line-returns-2 : (t : ℕ) → accept-line-lts.Need-returns-2 (
   accept-head-reads.Asked,
   accept-head-reads.Learnt,
@@ -155,7 +155,7 @@ accept-line-returns-2 : (t : ℕ) → accept-line-lts.Need-returns-2 (
 ) (accept-line-at t) accept-line.Post
 accept-line-returns-2 t c = λ e. clash e (not-true _ (c .if2 .taken))
 
--- src/accept.rt:345:8
+-- src/accept.rt:415:8
 accept-line-shared-slice-read-if3 : (t : ℕ) → accept-line-lts.Need-shared-slice-read-if3 (
   accept-head-reads.Asked,
   accept-head-reads.Learnt,
@@ -170,7 +170,7 @@ accept-line-shared-slice-read-if3 : (t : ℕ) → accept-line-lts.Need-shared-sl
 ) (accept-line-at t) accept-line.Post
 accept-line-shared-slice-read-if3 t c = omega (arith, c .before .before .before .before .before .before .before .before .before .accept-head .ensures (omega arith) .inside)
 
--- src/accept.rt:346:44
+-- src/accept.rt:416:51
 accept-line-submenu-of-requires : (t : ℕ) → accept-line-lts.Need-submenu-of-requires (
   accept-head-reads.Asked,
   accept-head-reads.Learnt,
@@ -185,7 +185,7 @@ accept-line-submenu-of-requires : (t : ℕ) → accept-line-lts.Need-submenu-of-
 ) (accept-line-at t) accept-line.Post
 accept-line-submenu-of-requires t c κs = (c .before .before .before .before .before .before .before .before .before .before .accept-head .ensures (omega arith) .head .inside, c .if3 .taken)
 
--- src/accept.rt:346:13
+-- src/accept.rt:416:13
 accept-line-accept-table-requires : (t : ℕ) → accept-line-lts.Need-accept-table-requires (
   accept-head-reads.Asked,
   accept-head-reads.Learnt,
@@ -200,7 +200,7 @@ accept-line-accept-table-requires : (t : ℕ) → accept-line-lts.Need-accept-ta
 ) (accept-line-at t) accept-line.Post
 accept-line-accept-table-requires t c κs = (omega (arith, c .before .before .before .before .before .before .before .before .before .before .before .before .before .before .before .pre .0), tt)
 
--- src/accept.rt:347:9
+-- src/accept.rt:417:9
 accept-line-same-length-2 : (t : ℕ) → accept-line-lts.Need-same-length-2 (
   accept-head-reads.Asked,
   accept-head-reads.Learnt,
@@ -213,9 +213,9 @@ accept-line-same-length-2 : (t : ℕ) → accept-line-lts.Need-same-length-2 (
   accept-table-below t,
   accept-table.Post,
 ) (accept-line-at t) accept-line.Post
-accept-line-same-length-2 t c = c .before .before .accept-table .kept .1 .1 .1 .1 .0 ∙ c .before .before .before .before .before .before .before .before .before .before .before .accept-components .kept .1 .1 .0
+accept-line-same-length-2 t c = c .before .before .accept-table .kept .1 .1 .1 .1 .1 .0 ∙ c .before .before .before .before .before .before .before .before .before .before .before .accept-components .kept .1 .1 .1 .0
 
--- src/accept.rt:347:9
+-- src/accept.rt:417:9
 accept-line-returns-3 : (t : ℕ) → accept-line-lts.Need-returns-3 (
   accept-head-reads.Asked,
   accept-head-reads.Learnt,
@@ -228,9 +228,9 @@ accept-line-returns-3 : (t : ℕ) → accept-line-lts.Need-returns-3 (
   accept-table-below t,
   accept-table.Post,
 ) (accept-line-at t) accept-line.Post
-accept-line-returns-3 t c = λ e. let q = c .before .before .before .before .before .before .before .before .before .before .before .before .before .before .before .accept-head .ensures (omega arith) in let b = c .before .before .before .before .before .before .before .before .before .before .before .accept-components .ensures (not-false _ (c .before .before .before .before .before .before .before .if2 .left)) in (reads _ (c .before .before .before .before .before .before .before .before .before .before .before .before .before .before .before .before .before .before .pre .1 .0) q b, q .head .inside, deep-line _ (c .before .before .before .before .before .before .before .before .before .before .before .before .before .before .before .before .before .before .pre .1 .0) q b _ (c .before .before .before .before .before .if3 .taken) (rw (c .before .before .before .before .submenu-of .ensures) at (c .before .before .accept-table .ensures e)))
+accept-line-returns-3 t c = λ e. let q = c .before .before .before .before .before .before .before .before .before .before .before .before .before .before .before .accept-head .ensures (omega arith) in let b = c .before .before .before .before .before .before .before .before .before .before .before .accept-components .ensures (not-false _ (c .before .before .before .before .before .before .before .if2 .left)) in (reads _ _ (c .before .before .before .before .before .before .before .before .before .before .before .before .before .before .before .before .before .before .pre .1 .0) q b, q .head .inside, deep-line _ _ (c .before .before .before .before .before .before .before .before .before .before .before .before .before .before .before .before .before .before .pre .1 .0) q b _ (c .before .before .before .before .before .if3 .taken) (rw (c .before .before .before .before .submenu-of .ensures) at (c .before .before .accept-table .ensures e)))
 
--- src/accept.rt:319:1
+-- src/accept.rt:388:1
 accept-line-same-length-3 : (t : ℕ) → accept-line-lts.Need-same-length-3 (
   accept-head-reads.Asked,
   accept-head-reads.Learnt,
@@ -243,9 +243,9 @@ accept-line-same-length-3 : (t : ℕ) → accept-line-lts.Need-same-length-3 (
   accept-table-below t,
   accept-table.Post,
 ) (accept-line-at t) accept-line.Post
-accept-line-same-length-3 t c = c .before .before .before .before .before .before .accept-components .kept .1 .1 .0
+accept-line-same-length-3 t c = c .before .before .before .before .before .before .accept-components .kept .1 .1 .1 .0
 
--- src/accept.rt:319:1
+-- src/accept.rt:388:1
 accept-line-returns-4 : (t : ℕ) → accept-line-lts.Need-returns-4 (
   accept-head-reads.Asked,
   accept-head-reads.Learnt,
@@ -258,15 +258,15 @@ accept-line-returns-4 : (t : ℕ) → accept-line-lts.Need-returns-4 (
   accept-table-below t,
   accept-table.Post,
 ) (accept-line-at t) accept-line.Post
-accept-line-returns-4 t c = λ e. let q = c .before .before .before .before .before .before .before .before .before .before .accept-head .ensures (omega arith) in (reads _ (c .before .before .before .before .before .before .before .before .before .before .before .before .before .pre .1 .0) q (c .before .before .before .before .before .before .accept-components .ensures e), q .head .inside, plain-line _ (c .before .before .before .before .before .before .before .before .before .before .before .before .before .pre .1 .0) q (c .before .before .before .before .before .before .accept-components .ensures e) _ (omega (arith, c .if3 .left)))
+accept-line-returns-4 t c = λ e. let q = c .before .before .before .before .before .before .before .before .before .before .accept-head .ensures (omega arith) in (reads _ _ (c .before .before .before .before .before .before .before .before .before .before .before .before .before .pre .1 .0) q (c .before .before .before .before .before .before .accept-components .ensures e), q .head .inside, plain-line _ _ (c .before .before .before .before .before .before .before .before .before .before .before .before .before .pre .1 .0) q (c .before .before .before .before .before .before .accept-components .ensures e) _ (omega (arith, c .if3 .left)))
 
 abbrev accept-table-Inv-loop : accept-table-lts.InvT-loop
-accept-table-Inv-loop image left table marks₀ below v₀ n₀ before₀ p₀ marks v n before p = ((Going image below p₀ v₀ marks₀ n before p v marks) × (length marks ≡ length marks₀)) × (before ≤ p)
+accept-table-Inv-loop image sheet left table marks₀ below v₀ n₀ before₀ p₀ marks v n before p = ((Going image sheet below p₀ v₀ marks₀ n before p v marks) × (length marks ≡ length marks₀)) × (before ≤ p)
 
 abbrev accept-table-μ-loop : accept-table-lts.MeasureT-loop
-accept-table-μ-loop image left table marks₀ below v₀ n₀ before₀ p₀ marks v n before p = 99 - n
+accept-table-μ-loop image sheet left table marks₀ below v₀ n₀ before₀ p₀ marks v n before p = 99 - n
 
--- src/accept.rt:361:9
+-- src/accept.rt:438:9
 accept-table-read-title-requires : (t : ℕ) → accept-table-lts.Need-read-title-requires (
   read-title-reads.Asked,
   read-title-reads.Learnt,
@@ -279,7 +279,7 @@ accept-table-read-title-requires : (t : ℕ) → accept-table-lts.Need-read-titl
 ) (accept-table-at t) accept-table.Post accept-table-Inv-loop accept-table-μ-loop
 accept-table-read-title-requires t c κs = search needs
 
--- src/accept.rt:363:9
+-- src/accept.rt:440:9
 accept-table-doubt-requires : (t : ℕ) → accept-table-lts.Need-doubt-requires (
   read-title-reads.Asked,
   read-title-reads.Learnt,
@@ -292,7 +292,7 @@ accept-table-doubt-requires : (t : ℕ) → accept-table-lts.Need-doubt-requires
 ) (accept-table-at t) accept-table.Post accept-table-Inv-loop accept-table-μ-loop
 accept-table-doubt-requires t c κs = search needs
 
--- src/accept.rt:363:9
+-- src/accept.rt:440:9
 accept-table-returns : (t : ℕ) → accept-table-lts.Need-returns (
   read-title-reads.Asked,
   read-title-reads.Learnt,
@@ -305,7 +305,7 @@ accept-table-returns : (t : ℕ) → accept-table-lts.Need-returns (
 ) (accept-table-at t) accept-table.Post accept-table-Inv-loop accept-table-μ-loop
 accept-table-returns t c = λ e. clash e (c .doubt .ensures)
 
--- src/accept.rt:366:9
+-- src/accept.rt:443:9
 accept-table-doubt-requires-2 : (t : ℕ) → accept-table-lts.Need-doubt-requires-2 (
   read-title-reads.Asked,
   read-title-reads.Learnt,
@@ -318,7 +318,7 @@ accept-table-doubt-requires-2 : (t : ℕ) → accept-table-lts.Need-doubt-requir
 ) (accept-table-at t) accept-table.Post accept-table-Inv-loop accept-table-μ-loop
 accept-table-doubt-requires-2 t c κs = search needs
 
--- src/accept.rt:366:9
+-- src/accept.rt:443:9
 accept-table-returns-2 : (t : ℕ) → accept-table-lts.Need-returns-2 (
   read-title-reads.Asked,
   read-title-reads.Learnt,
@@ -331,7 +331,7 @@ accept-table-returns-2 : (t : ℕ) → accept-table-lts.Need-returns-2 (
 ) (accept-table-at t) accept-table.Post accept-table-Inv-loop accept-table-μ-loop
 accept-table-returns-2 t c = λ e. clash e (c .doubt2 .ensures)
 
--- src/accept.rt:368:17
+-- src/accept.rt:445:17
 accept-table-sub-below : (t : ℕ) → accept-table-lts.Need-sub-below (
   read-title-reads.Asked,
   read-title-reads.Learnt,
@@ -344,7 +344,7 @@ accept-table-sub-below : (t : ℕ) → accept-table-lts.Need-sub-below (
 ) (accept-table-at t) accept-table.Post accept-table-Inv-loop accept-table-μ-loop
 accept-table-sub-below t c = omega arith
 
--- src/accept.rt:378:5
+-- src/accept.rt:455:5
 accept-table-loop-holds : (t : ℕ) → accept-table-lts.Need-loop-holds (
   read-title-reads.Asked,
   read-title-reads.Learnt,
@@ -355,9 +355,9 @@ accept-table-loop-holds : (t : ℕ) → accept-table-lts.Need-loop-holds (
   word-reads.Asked,
   word-reads.Learnt,
 ) (accept-table-at t) accept-table.Post accept-table-Inv-loop accept-table-μ-loop
-accept-table-loop-holds t c = ((going-start _ _ _ _ _, refl), omega arith)
+accept-table-loop-holds t c = ((going-start _ _ _ _ _ _, refl), omega arith)
 
--- src/accept.rt:379:9
+-- src/accept.rt:456:9
 accept-table-accept-line-requires : (t : ℕ) → accept-table-lts.Need-accept-line-requires (
   read-title-reads.Asked,
   read-title-reads.Learnt,
@@ -370,7 +370,7 @@ accept-table-accept-line-requires : (t : ℕ) → accept-table-lts.Need-accept-l
 ) (accept-table-at t) accept-table.Post accept-table-Inv-loop accept-table-μ-loop
 accept-table-accept-line-requires t c κs = (omega (arith, c .before .before .before .before .before .before .before .before .before .pre .0), (c .before .loop-test .taken, c .before .before .loop .inv .1))
 
--- src/accept.rt:381:13
+-- src/accept.rt:458:13
 accept-table-same-length : (t : ℕ) → accept-table-lts.Need-same-length (
   read-title-reads.Asked,
   read-title-reads.Learnt,
@@ -381,9 +381,9 @@ accept-table-same-length : (t : ℕ) → accept-table-lts.Need-same-length (
   word-reads.Asked,
   word-reads.Learnt,
 ) (accept-table-at t) accept-table.Post accept-table-Inv-loop accept-table-μ-loop
-accept-table-same-length t c = c .before .before .before .before .accept-line .kept .1 .1 .1 .1 .1 .1 .0 ∙ c .before .before .before .before .before .before .before .loop .inv .0 .1
+accept-table-same-length t c = c .before .before .before .before .accept-line .kept .1 .1 .1 .1 .1 .1 .1 .0 ∙ c .before .before .before .before .before .before .before .loop .inv .0 .1
 
--- src/accept.rt:381:13
+-- src/accept.rt:458:13
 accept-table-returns-3 : (t : ℕ) → accept-table-lts.Need-returns-3 (
   read-title-reads.Asked,
   read-title-reads.Learnt,
@@ -396,7 +396,7 @@ accept-table-returns-3 : (t : ℕ) → accept-table-lts.Need-returns-3 (
 ) (accept-table-at t) accept-table.Post accept-table-Inv-loop accept-table-μ-loop
 accept-table-returns-3 t c = λ e. clash e (not-true _ (c .if3 .taken))
 
--- src/accept.rt:383:12
+-- src/accept.rt:460:12
 accept-table-shared-slice-read-if4 : (t : ℕ) → accept-table-lts.Need-shared-slice-read-if4 (
   read-title-reads.Asked,
   read-title-reads.Learnt,
@@ -409,7 +409,7 @@ accept-table-shared-slice-read-if4 : (t : ℕ) → accept-table-lts.Need-shared-
 ) (accept-table-at t) accept-table.Post accept-table-Inv-loop accept-table-μ-loop
 accept-table-shared-slice-read-if4 t c = omega (arith, c .before .before .before .before .before .accept-line .ensures (not-false _ (c .before .if3 .left)) .1)
 
--- src/accept.rt:384:13
+-- src/accept.rt:461:13
 accept-table-same-length-2 : (t : ℕ) → accept-table-lts.Need-same-length-2 (
   read-title-reads.Asked,
   read-title-reads.Learnt,
@@ -420,9 +420,9 @@ accept-table-same-length-2 : (t : ℕ) → accept-table-lts.Need-same-length-2 (
   word-reads.Asked,
   word-reads.Learnt,
 ) (accept-table-at t) accept-table.Post accept-table-Inv-loop accept-table-μ-loop
-accept-table-same-length-2 t c = c .before .before .before .before .before .before .accept-line .kept .1 .1 .1 .1 .1 .1 .0 ∙ c .before .before .before .before .before .before .before .before .before .loop .inv .0 .1
+accept-table-same-length-2 t c = c .before .before .before .before .before .before .accept-line .kept .1 .1 .1 .1 .1 .1 .1 .0 ∙ c .before .before .before .before .before .before .before .before .before .loop .inv .0 .1
 
--- src/accept.rt:384:13
+-- src/accept.rt:461:13
 accept-table-returns-4 : (t : ℕ) → accept-table-lts.Need-returns-4 (
   read-title-reads.Asked,
   read-title-reads.Learnt,
@@ -433,9 +433,9 @@ accept-table-returns-4 : (t : ℕ) → accept-table-lts.Need-returns-4 (
   word-reads.Asked,
   word-reads.Learnt,
 ) (accept-table-at t) accept-table.Post accept-table-Inv-loop accept-table-μ-loop
-accept-table-returns-4 t c = λ e. let o = c .before .before .before .before .before .before .accept-line .ensures e in table-reaches _ _ (omega arith) (c .before .before .before .before .before .before .before .before .before .before .before .before .before .read-title .ensures) (c .before .before .before .before .before .before .before .before .before .before .before .if1 .left) (going-last _ _ _ (c .before .before .before .before .before .before .before .before .loop-test .taken) (o .0) (o .2) (c .before .before .before .before .before .before .before .before .before .loop .inv .0 .0) (c .if4 .taken))
+accept-table-returns-4 t c = λ e. let o = c .before .before .before .before .before .before .accept-line .ensures e in table-reaches _ _ _ (omega arith) (c .before .before .before .before .before .before .before .before .before .before .before .before .before .read-title .ensures) (c .before .before .before .before .before .before .before .before .before .before .before .if1 .left) (going-last _ _ _ _ (c .before .before .before .before .before .before .before .before .loop-test .taken) (o .0) (o .2) (c .before .before .before .before .before .before .before .before .before .loop .inv .0 .0) (c .if4 .taken))
 
--- src/accept.rt:387:29
+-- src/accept.rt:464:29
 accept-table-add-word : (t : ℕ) → accept-table-lts.Need-add-word (
   read-title-reads.Asked,
   read-title-reads.Learnt,
@@ -448,7 +448,7 @@ accept-table-add-word : (t : ℕ) → accept-table-lts.Need-add-word (
 ) (accept-table-at t) accept-table.Post accept-table-Inv-loop accept-table-μ-loop
 accept-table-add-word t c = omega (arith, c .before .before .before .before .before .before .accept-line .ensures (not-false _ (c .before .before .if3 .left)) .1)
 
--- src/accept.rt:387:17
+-- src/accept.rt:464:17
 accept-table-word-requires : (t : ℕ) → accept-table-lts.Need-word-requires (
   read-title-reads.Asked,
   read-title-reads.Learnt,
@@ -461,7 +461,7 @@ accept-table-word-requires : (t : ℕ) → accept-table-lts.Need-word-requires (
 ) (accept-table-at t) accept-table.Post accept-table-Inv-loop accept-table-μ-loop
 accept-table-word-requires t c κs = omega (arith, c .before .before .before .before .before .before .accept-line .ensures (not-false _ (c .before .before .if3 .left)) .1, c .if4 .left)
 
--- src/accept.rt:387:13
+-- src/accept.rt:464:13
 accept-table-add-p : (t : ℕ) → accept-table-lts.Need-add-p (
   read-title-reads.Asked,
   read-title-reads.Learnt,
@@ -474,7 +474,7 @@ accept-table-add-p : (t : ℕ) → accept-table-lts.Need-add-p (
 ) (accept-table-at t) accept-table.Post accept-table-Inv-loop accept-table-μ-loop
 accept-table-add-p t c = omega (arith, c .before .before .before .before .before .before .before .accept-line .ensures (not-false _ (c .before .before .before .if3 .left)) .1, c .word .ensures .1)
 
--- src/accept.rt:388:13
+-- src/accept.rt:465:13
 accept-table-add-n : (t : ℕ) → accept-table-lts.Need-add-n (
   read-title-reads.Asked,
   read-title-reads.Learnt,
@@ -487,7 +487,7 @@ accept-table-add-n : (t : ℕ) → accept-table-lts.Need-add-n (
 ) (accept-table-at t) accept-table.Post accept-table-Inv-loop accept-table-μ-loop
 accept-table-add-n t c = omega arith
 
--- src/accept.rt:378:5
+-- src/accept.rt:455:5
 accept-table-loop-less : (t : ℕ) → accept-table-lts.Need-loop-less (
   read-title-reads.Asked,
   read-title-reads.Learnt,
@@ -500,7 +500,7 @@ accept-table-loop-less : (t : ℕ) → accept-table-lts.Need-loop-less (
 ) (accept-table-at t) accept-table.Post accept-table-Inv-loop accept-table-μ-loop
 accept-table-loop-less t c = omega arith
 
--- src/accept.rt:378:5
+-- src/accept.rt:455:5
 accept-table-loop-again : (t : ℕ) → accept-table-lts.Need-loop-again (
   read-title-reads.Asked,
   read-title-reads.Learnt,
@@ -511,9 +511,9 @@ accept-table-loop-again : (t : ℕ) → accept-table-lts.Need-loop-again (
   word-reads.Asked,
   word-reads.Learnt,
 ) (accept-table-at t) accept-table.Post accept-table-Inv-loop accept-table-μ-loop
-accept-table-loop-again t c = let o = c .before .before .before .before .before .before .before .accept-line .ensures (not-false _ (c .before .before .before .if3 .left)) in ((rw (c .word .ensures .0) (going-more _ _ _ (c .before .before .before .before .before .before .before .before .before .loop-test .taken) (o .0) (o .2) (c .before .before .before .before .before .before .before .before .before .before .loop .inv .0 .0) (omega (arith, c .before .if4 .left))), c .before .before .before .before .before .before .before .accept-line .kept .1 .1 .1 .1 .1 .1 .0 ∙ c .before .before .before .before .before .before .before .before .before .before .loop .inv .0 .1), omega arith)
+accept-table-loop-again t c = let o = c .before .before .before .before .before .before .before .accept-line .ensures (not-false _ (c .before .before .before .if3 .left)) in ((rw (c .word .ensures .0) (going-more _ _ _ _ (c .before .before .before .before .before .before .before .before .before .loop-test .taken) (o .0) (o .2) (c .before .before .before .before .before .before .before .before .before .before .loop .inv .0 .0) (omega (arith, c .before .if4 .left))), c .before .before .before .before .before .before .before .accept-line .kept .1 .1 .1 .1 .1 .1 .1 .0 ∙ c .before .before .before .before .before .before .before .before .before .before .loop .inv .0 .1), omega arith)
 
--- src/accept.rt:390:5
+-- src/accept.rt:467:5
 accept-table-doubt-requires-3 : (t : ℕ) → accept-table-lts.Need-doubt-requires-3 (
   read-title-reads.Asked,
   read-title-reads.Learnt,
@@ -526,7 +526,7 @@ accept-table-doubt-requires-3 : (t : ℕ) → accept-table-lts.Need-doubt-requir
 ) (accept-table-at t) accept-table.Post accept-table-Inv-loop accept-table-μ-loop
 accept-table-doubt-requires-3 t c κs = search needs
 
--- src/accept.rt:358:1
+-- src/accept.rt:428:1
 accept-table-same-length-3 : (t : ℕ) → accept-table-lts.Need-same-length-3 (
   read-title-reads.Asked,
   read-title-reads.Learnt,
@@ -539,7 +539,7 @@ accept-table-same-length-3 : (t : ℕ) → accept-table-lts.Need-same-length-3 (
 ) (accept-table-at t) accept-table.Post accept-table-Inv-loop accept-table-μ-loop
 accept-table-same-length-3 t c = c .before .before .loop .inv .0 .1
 
--- src/accept.rt:358:1
+-- src/accept.rt:428:1
 accept-table-returns-5 : (t : ℕ) → accept-table-lts.Need-returns-5 (
   read-title-reads.Asked,
   read-title-reads.Learnt,
@@ -570,7 +570,7 @@ pub +accept-line+accept-table-spec : {M : Type 1} → statement M
     (accept-line-accept-head-requires t)
     (accept-line-doubt-requires t)
     (accept-line-returns t)
-    (accept-line-add-t13 t)
+    (accept-line-add-t14 t)
     (accept-line-accept-components-requires t)
     (accept-line-same-length t)
     (accept-line-returns-2 t)

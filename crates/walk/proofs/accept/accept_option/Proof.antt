@@ -12,39 +12,39 @@ use Rattle.walk.proofs.accept.claim.Reads as claim-reads
 use Rattle.walk.proofs.accept.option_end.Reads as option-end-reads
 use Rattle.walk.proofs.accept.word.Reads as word-reads
 
--- src/accept.rt:146:9
+-- src/accept.rt:154:9
 option-end-requires : tie.Need-option-end-requires
 option-end-requires c κs = search needs
 
--- src/accept.rt:148:9
+-- src/accept.rt:156:9
 doubt-requires : tie.Need-doubt-requires
 doubt-requires c κs = search needs
 
--- src/accept.rt:148:9
+-- src/accept.rt:156:9
 returns : tie.Need-returns
 returns c = λ e. clash e (c .doubt .ensures)
 
--- src/accept.rt:150:47
+-- src/accept.rt:158:54
 add-word : tie.Need-add-word
 add-word c = search needs
 
--- src/accept.rt:150:35
+-- src/accept.rt:158:42
 word-requires : tie.Need-word-requires
 word-requires c κs = omega (arith, c .before .before .option-end .ensures (omega arith) .0)
 
--- src/accept.rt:150:9
+-- src/accept.rt:158:9
 claim-requires : tie.Need-claim-requires
 claim-requires c κs = search needs
 
--- src/accept.rt:155:17
-add-t10 : tie.Need-add-t10
-add-t10 c = search needs
+-- src/accept.rt:163:17
+add-t11 : tie.Need-add-t11
+add-t11 c = search needs
 
--- src/accept.rt:142:1
+-- src/accept.rt:150:1
 same-length : tie.Need-same-length
 same-length c = search needs
 
--- src/accept.rt:142:1
+-- src/accept.rt:150:1
 returns-2 : tie.Need-returns-2
 returns-2 c = λ e. option-passes _ _ (c .before .before .before .before .before .before .before .option-end .ensures (omega arith) .1) (c .before .before .before .before .word .ensures .0) (c .before .before .before .before .before .before .before .before .before .before .pre .1 .1) (c .before .before .before .claim .ensures e)
 
@@ -58,6 +58,6 @@ accept-option-spec =
     add-word
     word-requires
     claim-requires
-    add-t10
+    add-t11
     same-length
     returns-2)

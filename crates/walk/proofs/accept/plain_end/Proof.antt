@@ -1,7 +1,7 @@
 -- The tests are those of the grammar.
-use native.Mathlib.Omega.{arith}
 use mathlib.Core.Path.{refl, sym, _∙_}
 use Rattle.walk.proofs.Pieces.{plain-is}
+use native.Mathlib.Omega.{arith}
 use borrow.Author.Needs.{needs}
 use Rattle.walk.proofs.accept.plain_end.Statement.{statement}
 use Rattle.walk.proofs.accept.plain_end.Tie as tie
@@ -9,43 +9,43 @@ use Rattle.walk.proofs.accept.plain_end.Reads as reads
 use Rattle.walk.proofs.accept.plain_end.Lts as lts
 use Rattle.walk.proofs.accept.word.Reads as word-reads
 
--- src/accept.rt:242:15
+-- src/accept.rt:261:15
 add-end : tie.Need-add-end
 add-end c = search needs
 
--- src/accept.rt:242:23
+-- src/accept.rt:261:23
 shared-slice-read-end : tie.Need-shared-slice-read-end
 shared-slice-read-end c = search needs
 
--- src/accept.rt:242:23
+-- src/accept.rt:261:23
 cast-end : tie.Need-cast-end
 cast-end c = search needs
 
--- src/accept.rt:242:15
+-- src/accept.rt:261:15
 sub-end : tie.Need-sub-end
 sub-end c = search needs
 
--- src/accept.rt:244:9
+-- src/accept.rt:263:9
 returns : tie.Need-returns
 returns c = λ e. absurd (omega arith)
 
--- src/accept.rt:246:20
+-- src/accept.rt:265:20
 sub-word : tie.Need-sub-word
 sub-word c = search needs
 
--- src/accept.rt:246:8
+-- src/accept.rt:265:8
 word-requires : tie.Need-word-requires
 word-requires c κs = search needs
 
--- src/accept.rt:246:32
+-- src/accept.rt:265:32
 sub-if2 : tie.Need-sub-if2
 sub-if2 c = search needs
 
--- src/accept.rt:247:9
+-- src/accept.rt:266:9
 returns-2 : tie.Need-returns-2
 returns-2 c = λ _ n z. plain-is _ n _ _ _ z (c .before .before .before .before .before .pre .1 .1 .0) (c .before .before .before .before .before .pre .1 .1 .1) refl (omega arith) (c .before .before .before .before .before .pre .1 .0) (sym (c .before .word .ensures .0) ∙ c .if2 .taken)
 
--- src/accept.rt:238:1
+-- src/accept.rt:257:1
 returns-3 : tie.Need-returns-3
 returns-3 c = λ e. absurd (omega arith)
 
