@@ -1,6 +1,7 @@
 pub mod Example
 pub mod Agreement
 pub mod Turning
+pub mod Usual
 pub mod Runs
 pub mod Titles
 pub mod Aligning

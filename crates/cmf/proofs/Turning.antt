@@ -1,43 +1,48 @@
 -- One turn of each loop over texts, digits, items and lines, and the ways out of it; over variables, so that a loop's proof cites one line.
-use Prim.Native.Nat.{ℕ, zero, suc, _+_, _-_, _*_, _≤_, _<_, max}
+use Prim.Native.Nat.{ℕ, zero, suc, _+_, _-_, _*_, _/_, _%_, _≤_, _<_, max}
 use mathlib.Core.Path.{_≡_, refl, sym, _∙_}
-use mathlib.Core.Bool.{true, false}
+use mathlib.Core.Bool.{Bool, true, false}
 use mathlib.Core.List.{List, []}
 use native.Mathlib.Omega.{arith}
-use native.Mathlib.Nat.{zero-mul, one-mul}
+use native.Mathlib.Nat.{zero-mul, one-mul, mul-zero}
 use lib.ListN.{length}
 use borrow.Author.Tests.{le-leb, lt-leb, leb-true}
-use Rattle.laws.specs.Choice.{if_then_else_, _and_}
+use Rattle.laws.specs.Choice.{if_then_else_, _and_, _≤?_}
 use Rattle.laws.specs.Bytes.{byteAt, room}
 use Rattle.laws.proofs.Cases.{if-true, if-false, if-lt, if-ge, if-le, if-ind, by-test}
-use Rattle.laws.proofs.Rooms.{room-le}
-use Rattle.cmf.specs.Readers.{runOf, textsFrom, allDigits, itemFrom, textBytes, tagBit, optionsEnd, headRead, headBy, headAt}
+use Rattle.laws.proofs.Rooms.{room-le, le-room}
+use Rattle.cmf.specs.Readers.{runOf, textsFrom, allDigits, itemFrom, textBytes, tagBit, optionsEnd, passwords, headRead, headBy, headAt}
 use Rattle.cmf.specs.Places.{linesFrom, lineFrom}
 use Rattle.cmf.specs.declared.text.Run.{Run}
 use Rattle.cmf.specs.declared.head.Head.{Head}
 
+no-room : (len at n : ℕ) → len < at + n → room len at n ≡ false
+unfolding room
+no-room len at n h = if-ind (λ (t : Bool). t ≡ false) (at ≤? len) (λ e. lt-leb n (len - at) (omega (arith, leb-true at len e))) (λ e. refl)
+
 module _ (im : List ℕ) where
   -- ---- texts
 
-  pub texts-turn : (left end longest : ℕ) → 0 < left → room (length im) end 1 ≡ true → room (length im) (end + 1) (byteAt im end) ≡ true
+  pub texts-turn : (left end longest : ℕ) → 0 < left → end < length im → end + 1 + byteAt im end ≤ length im
       → textsFrom im (left - 1) (end + 1 + byteAt im end) (max longest (byteAt im end)) ≡ textsFrom im left end longest
   unfolding textsFrom
   texts-turn zero end longest h a b = absurd (omega arith)
   texts-turn (suc n) end longest h a b =
       let e : suc n - 1 ≡ n = omega arith in
-      rw e (sym (if-true _ _ a ∙ if-true _ _ b))
+      rw e (sym (if-true _ _ (le-room (length im) end 1 (omega arith)) ∙ if-true _ _ (le-room (length im) (end + 1) (byteAt im end) b)))
 
   -- no length byte, or not all bytes behind it
-  pub texts-none : (left end longest : ℕ) → 0 < left → room (length im) end 1 ≡ false → textsFrom im left end longest ≡ runOf false end longest
+  pub texts-none : (left end longest : ℕ) → 0 < left → length im ≤ end → textsFrom im left end longest ≡ runOf false end longest
   unfolding textsFrom
   texts-none zero end longest h a = absurd (omega arith)
-  texts-none (suc n) end longest h a = if-false _ _ a
+  texts-none (suc n) end longest h a = if-false _ _ (no-room (length im) end 1 (omega arith))
 
-  pub texts-cut : (left end longest : ℕ) → 0 < left → room (length im) end 1 ≡ true → room (length im) (end + 1) (byteAt im end) ≡ false
+  pub texts-cut : (left end longest : ℕ) → 0 < left → end < length im → length im < end + 1 + byteAt im end
       → textsFrom im left end longest ≡ runOf false end longest
   unfolding textsFrom
   texts-cut zero end longest h a b = absurd (omega arith)
-  texts-cut (suc n) end longest h a b = if-true _ _ a ∙ if-false _ _ b
+  texts-cut (suc n) end longest h a b =
+      if-true _ _ (le-room (length im) end 1 (omega arith)) ∙ if-false _ _ (no-room (length im) (end + 1) (byteAt im end) b)
 
   -- texts that fit end in the image
   pub texts-inside : (n at m : ℕ) → at ≤ length im → textsFrom im n at m .fits ≡ true → textsFrom im n at m .end ≤ length im
@@ -96,6 +101,32 @@ unfolding headBy
 head-whole im p tag t h a b d e =
     e ∙ sym (if-le (optionsEnd p tag) (length im) _ _ a ∙ if-true _ _ b ∙ if-le (tagBit 16 tag) (tagBit 8 tag) _ _ d)
 
+-- a tag below 16 asks for no password
+pub no-password : (tag : ℕ) → tag < 16 → passwords tag ≡ 0
+no-password tag h = let z : tagBit 16 tag ≡ 0 = omega arith in rw z (mul-zero (tagBit 8 tag))
+
+-- a head without a password, with room for all that options can take
+pub head-short : (im : List ℕ) (p : ℕ) → p + 9 ≤ length im → byteAt im p < 16 → headAt im p ≡ headRead im p (byteAt im p) (optionsEnd p (byteAt im p))
+unfolding headAt textsFrom
+head-short im p h t =
+    let tag = byteAt im p in
+    let e : textsFrom im (passwords tag) (optionsEnd p tag) 0 ≡ runOf true (optionsEnd p tag) 0 = rw (no-password tag t) in
+    if-lt p (length im) _ _ (omega arith) ∙ if-lt tag 32 _ _ (omega arith)
+    ∙ rw e (sym (head-whole im p tag (runOf true (optionsEnd p tag) 0) _ (omega arith) refl (omega arith) refl))
+
+-- a head with a password, all of which is there
+pub head-protected : (im : List ℕ) (p : ℕ) → p + 9 ≤ length im → 24 ≤ byteAt im p → byteAt im p < 32
+    → textsFrom im 1 (optionsEnd p (byteAt im p)) 0 .fits ≡ true
+    → headAt im p ≡ headRead im p (byteAt im p) (textsFrom im 1 (optionsEnd p (byteAt im p)) 0 .end)
+unfolding headAt
+head-protected im p h l u f =
+    let tag = byteAt im p in
+    let a : tagBit 8 tag ≡ 1 = omega arith in
+    let b : tagBit 16 tag ≡ 1 = omega arith in
+    let n : passwords tag ≡ 1 = rw (a, b) in
+    let e : textsFrom im (passwords tag) (optionsEnd p tag) 0 ≡ textsFrom im 1 (optionsEnd p tag) 0 = rw n in
+    if-lt p (length im) _ _ (omega arith) ∙ if-lt tag 32 _ _ u ∙ rw e (sym (head-whole im p tag (textsFrom im 1 (optionsEnd p tag) 0) _ (omega arith) f (omega arith) refl))
+
 -- a product of two bits
 pub bits-le : (a b : ℕ) → a ≤ 1 → b ≤ 1 → a * b ≤ 1
 bits-le zero b h k = rw zero-mul (omega arith)
@@ -105,27 +136,27 @@ bits-le (suc (suc a)) b h k = absurd (omega arith)
 -- ---- lines
 
 module _ (im : List ℕ) where
-  pub line-turn : (left p : ℕ) (h : Head) → 0 < left → h ≡ headAt im p → lineFrom im (left - 1) (h .next) ≡ lineFrom im left p
+  pub line-turn : (left p q : ℕ) → 0 < left → q ≡ headAt im p .next → lineFrom im (left - 1) q ≡ lineFrom im left p
   unfolding lineFrom
-  line-turn zero p h a e = absurd (omega arith)
-  line-turn (suc n) p h a e = let z : suc n - 1 ≡ n = omega arith in rw (z, e)
+  line-turn zero p q a e = absurd (omega arith)
+  line-turn (suc n) p q a e = let z : suc n - 1 ≡ n = omega arith in rw (z, e)
 
   -- how many lines are left when n of the hundred are passed
-  lines-here : (n p : ℕ) (h : Head) → n < 100 → h ≡ headAt im p
-      → length (linesFrom im (100 - n) p) ≡ 1 + length (if h .last then [] else linesFrom im (100 - (n + 1)) (h .next))
+  lines-here : (n p q : ℕ) (last : Bool) → n < 100 → last ≡ headAt im p .last → q ≡ headAt im p .next
+      → length (linesFrom im (100 - n) p) ≡ 1 + length (if last then [] else linesFrom im (100 - (n + 1)) q)
   unfolding linesFrom
-  lines-here n p h a e =
+  lines-here n p q last a e f =
       let z : 100 - n ≡ suc (100 - (n + 1)) = omega arith in
-      rw (z, e) (omega arith)
+      rw (z, e, f) (omega arith)
 
-  pub count-last : (n p : ℕ) (h : Head) → n < 100 → h ≡ headAt im p → h .last ≡ true → n + length (linesFrom im (100 - n) p) ≡ n + 1
+  pub count-last : (n p : ℕ) → n < 100 → true ≡ headAt im p .last → n + length (linesFrom im (100 - n) p) ≡ n + 1
   unfolding if_then_else_
-  count-last n p h a e l = rw (lines-here n p h a e, l)
+  count-last n p a l = rw (lines-here n p (headAt im p .next) true a l refl)
 
-  pub count-next : (n p : ℕ) (h : Head) → n < 100 → h ≡ headAt im p → h .last ≡ false
-      → n + length (linesFrom im (100 - n) p) ≡ n + 1 + length (linesFrom im (100 - (n + 1)) (h .next))
+  pub count-next : (n p q : ℕ) → n < 100 → false ≡ headAt im p .last → q ≡ headAt im p .next
+      → n + length (linesFrom im (100 - n) p) ≡ n + 1 + length (linesFrom im (100 - (n + 1)) q)
   unfolding if_then_else_
-  count-next n p h a e l = let q = rw l at (lines-here n p h a e) in omega arith
+  count-next n p q a l e = let h = lines-here n p q false a l e in omega arith
 
   pub count-done : (n p : ℕ) → 100 ≤ n → n + length (linesFrom im (100 - n) p) ≡ n
   unfolding linesFrom

@@ -3,11 +3,15 @@ ghost use mathlib.Core.Path.{_≡_};
 ghost use Prim.Native.Nat.{_+_, _%_, _<_, _≤_};
 ghost use lib.ListN.{length};
 ghost use mathlib.Core.Bool.{true, false};
+ghost use mathlib.Core.List.{[]};
 ghost use Rattle.laws.specs.Choice.{if_then_else_, _=?_};
-ghost use Rattle.laws.specs.Bytes.{room};
+ghost use Rattle.laws.specs.Bytes.{wordAt, room};
 ghost use Rattle.field.specs.Cells.{biased};
-ghost use Rattle.cmf.specs.Readers.{tagBit, textsFrom, fixedBytes, textCount, given, counterOf, kindAt, defaultPlace, sheetPlaceAt, fieldBy, componentRefused, componentRead, laidOut, componentBy, componentAt};
+ghost use Rattle.field.specs.Settings.{settingsFit};
+ghost use Rattle.field.specs.Values.{valueOf, valueAt};
+ghost use Rattle.cmf.specs.Readers.{tagBit, textsFrom, fixedBytes, textCount, given, counterOf, kindAt, sheetPlaceAt, fieldBy, componentRefused, componentRead, laidOut, componentBy, componentAt};
 use crate::image::Image;
+use crate::image::word_in;
 use crate::text::Run;
 use crate::text::read_texts;
 use field::kind::CounterSettings;
@@ -17,7 +21,6 @@ use field::kind::Kind;
 use field::kind::SheetPlace;
 use field::record::Field;
 use field::settings::settings_fit;
-use field::table::profile_of;
 use field::value::Value;
 use field::value::value_at;
 use laws::byte_at;
@@ -97,9 +100,9 @@ fn option_given(image: &[u8], at: usize, t: Run) -> bool
     false
 }
 
-// Whether section 7 gives the component and it is not left for later.
+// Whether section 7 gives the component, which is no option, and it is not left for later.
 fn is_given(image: &[u8], at: usize, code: u8, edit: u8, t: Run) -> bool
-    requires { ⌜ at < length (now image) ⌝ }
+    requires { ⌜ (at < length (now image)) × (code ≡ 0x14 → ⊥) ⌝ }
     ensures { λ r. ⌜ r ≡ given (now (image .entry)) at code edit t ⌝ }
 {
     if code <= 0x0a {
@@ -116,7 +119,6 @@ fn is_given(image: &[u8], at: usize, code: u8, edit: u8, t: Run) -> bool
     }
     match code {
         0x13 => at + byte_at(image, at + 6) as usize == t.end,
-        0x14 => option_given(image, at, t),
         0x15 => edit == 0,
         _ => code == 0x17,
     }
@@ -140,41 +142,6 @@ fn counter_of(image: &[u8], at: usize) -> CounterSettings
     }
 }
 
-// The kind that a code gives; what is no field counts as a trigger.
-fn kind_at(image: &[u8], at: usize, code: u8) -> Kind
-    requires { ⌜ at < length (now image) ⌝ }
-    ensures { λ r. ⌜ r ≡ kindAt (now (image .entry)) at code ⌝ }
-{
-    if code <= 0x0a {
-        return Kind::Integer(Format::of_code(code));
-    }
-    match code {
-        0x0d => Kind::Counter(counter_of(image, at)),
-        0x0f => Kind::Time(true),
-        0x10 => Kind::Time(false),
-        0x11 => Kind::Date(true),
-        0x12 => Kind::Date(false),
-        0x13 => Kind::Switch(byte_at(image, at + 7)),
-        0x14 => Kind::Option {
-            items: byte_at(image, at + 7),
-            longest: byte_at(image, at + 8),
-        },
-        _ => Kind::Trigger,
-    }
-}
-
-fn default_place(at: usize, code: u8) -> usize
-    requires { ⌜ at < 9223372036854775808 ⌝ }
-    ensures { λ r. ⌜ r ≡ defaultPlace at code ⌝ }
-{
-    match code {
-        0x0d => at + 12,
-        0x13 => at + 10,
-        0x14 => at + 9,
-        _ => at + 6,
-    }
-}
-
 fn sheet_place(image: &[u8], at: usize, code: u8) -> u16
     requires { ⌜ at < length (now image) ⌝ }
     ensures { λ r. ⌜ r ≡ sheetPlaceAt (now (image .entry)) at code ⌝ }
@@ -185,17 +152,53 @@ fn sheet_place(image: &[u8], at: usize, code: u8) -> u16
     0
 }
 
-fn field_by(image: &[u8], at: usize, code: u8) -> Field
-    requires { ⌜ at < length (now image) ⌝ }
-    ensures { λ r. ⌜ r ≡ fieldBy (now (image .entry)) at code ⌝ }
+// A trigger has no bytes; it stands for the field where there is none.
+fn trigger(at: usize, sheet: usize) -> Field
+    ensures { λ r. ⌜ r ≡ record { image = record { 0 = at }; sheet = record { 0 = sheet }; kind = Kind.Trigger; default = valueOf 0 [] } ⌝ }
 {
-    let kind = kind_at(image, at, code);
-    let default = value_at(image, default_place(at, code), profile_of(kind).bytes);
     Field {
         image: ImagePlace(at),
-        sheet: SheetPlace(sheet_place(image, at, code) as usize),
+        sheet: SheetPlace(sheet),
+        kind: Kind::Trigger,
+        default: Value {
+            bytes: [0, 0, 0, 0],
+            count: 0,
+        },
+    }
+}
+
+// A field of this kind whose default is in so many bytes, so far behind its tag.
+fn field_of(image: &[u8], at: usize, kind: Kind, behind: usize, count: u8) -> Field
+    requires { ⌜ (at < length (now image)) × (behind ≤ 12) ⌝ }
+    ensures { λ r. ⌜ r ≡ record { image = record { 0 = at }; sheet = record { 0 = wordAt (now (image .entry)) (at + 4) }; kind = kind; default = valueAt (at + behind) count (now (image .entry)) } ⌝ }
+{
+    Field {
+        image: ImagePlace(at),
+        sheet: SheetPlace(word_at(image, at + 4) as usize),
         kind,
-        default,
+        default: value_at(image, at + behind, count),
+    }
+}
+
+// The field that a code gives, but an option's; what is no field counts as a trigger.
+fn field_by(image: &[u8], at: usize, code: u8) -> Field
+    requires { ⌜ (at < length (now image)) × (code ≡ 0x14 → ⊥) ⌝ }
+    ensures { λ r. ⌜ r ≡ fieldBy (now (image .entry)) at code ⌝ }
+{
+    if code <= 0x04 {
+        return field_of(image, at, Kind::Integer(Format::of_code(code)), 6, 1);
+    }
+    if code <= 0x0a {
+        return field_of(image, at, Kind::Integer(Format::of_code(code)), 6, 2);
+    }
+    match code {
+        0x0d => field_of(image, at, Kind::Counter(counter_of(image, at)), 12, 2),
+        0x0f => field_of(image, at, Kind::Time(true), 6, 3),
+        0x10 => field_of(image, at, Kind::Time(false), 6, 2),
+        0x11 => field_of(image, at, Kind::Date(true), 6, 4),
+        0x12 => field_of(image, at, Kind::Date(false), 6, 3),
+        0x13 => field_of(image, at, Kind::Switch(byte_at(image, at + 7)), 10, 4),
+        _ => trigger(at, sheet_place(image, at, code) as usize),
     }
 }
 
@@ -204,21 +207,12 @@ impl Component {
     fn refused(image: &[u8], at: usize, code: u8) -> Self
         ensures { λ r. ⌜ r ≡ componentRefused (now (image .entry)) at code ⌝ }
     {
-        let field = Field {
-            image: ImagePlace(at),
-            sheet: SheetPlace(0),
-            kind: Kind::Trigger,
-            default: Value {
-                bytes: [0, 0, 0, 0],
-                count: 0,
-            },
-        };
         Component {
             refusal: code,
             last: true,
             editable: false,
             holds: false,
-            field,
+            field: trigger(at, 0),
             end: at,
             next: at,
         }
@@ -251,9 +245,9 @@ fn is_field(code: u8) -> bool
     true
 }
 
-// The component that ends at `end`.
+// The component, no option, that ends at `end`.
 fn component_read(image: &[u8], at: usize, code: u8, tag: u8, end: usize) -> Component
-    requires { ⌜ (at < length (now image)) × (end ≤ length (now image)) ⌝ }
+    requires { ⌜ (at < length (now image)) × (code ≡ 0x14 → ⊥) × (end ≤ length (now image)) ⌝ }
     ensures { λ r. ⌜ r ≡ componentRead (now (image .entry)) at code tag end ⌝ }
 {
     let field = field_by(image, at, code);
@@ -270,18 +264,110 @@ fn component_read(image: &[u8], at: usize, code: u8, tag: u8, end: usize) -> Com
     }
 }
 
-// The component with these texts behind its fixed bytes.
+// The component, no option, whose fixed bytes are all there, with these texts behind them.
 fn laid_out(image: &[u8], at: usize, code: u8, tag: u8, t: Run) -> Component
-    requires { ⌜ (at < length (now image)) × (room (length (now image)) at (fixedBytes code (tagBit 32 tag)) ≡ true → t .fits ≡ true → t .end ≤ length (now image)) ⌝ }
+    requires { ⌜ (at < length (now image)) × (code ≡ 0x14 → ⊥) × (room (length (now image)) at (fixedBytes code (tagBit 32 tag)) ≡ true) × (t .fits ≡ true → t .end ≤ length (now image)) ⌝ }
     ensures { λ r. ⌜ r ≡ laidOut (now (image .entry)) at code tag t ⌝ }
 {
-    let edit = tag / 32 % 2;
-    let whole = room(image, at, fixed_bytes(code, edit));
+    if t.fits {
+        let given = is_given(image, at, code, tag / 32 % 2, t);
+        if given {
+            return component_read(image, at, code, tag, t.end);
+        }
+        return Component::refused(image, at, 7);
+    }
+    Component::refused(image, at, 6)
+}
+
+// The component with this code, which is no option's.
+fn component_by(image: &[u8], at: usize, code: u8, tag: u8) -> Component
+    requires { ⌜ (at < length (now image)) × (code ≡ 0x14 → ⊥) ⌝ }
+    ensures { λ r. ⌜ r ≡ componentBy (now (image .entry)) at code tag ⌝ }
+{
+    if code < Image::CODES {
+        let fixed = fixed_bytes(code, tag / 32 % 2);
+        let whole = room(image, at, fixed);
+        if whole {
+            let t = read_texts(image, text_count(image, at, code), at + fixed);
+            return laid_out(image, at, code, tag, t);
+        }
+        return Component::refused(image, at, 6);
+    }
+    Component::refused(image, at, 7)
+}
+
+// A constant string: it is no field, and no setting of it can be bad.
+fn string_by(image: &[u8], at: usize, tag: u8) -> Component
+    requires { ⌜ (at < length (now image)) × (tag % 64 ≡ 0x15) ⌝ }
+    ensures { λ r. ⌜ r ≡ componentBy (now (image .entry)) at 0x15 tag ⌝ }
+{
+    let t = read_texts(image, 1, at + 1);
+    if t.fits {
+        let end = t.end;
+        return Component {
+            refusal: 0,
+            last: tag / 128 % 2 == 1,
+            editable: false,
+            holds: false,
+            field: trigger(at, 0),
+            end,
+            next: end + end % 2,
+        };
+    }
+    Component::refused(image, at, 6)
+}
+
+// The field of an option, whose fixed bytes are all there.
+fn option_field(image: &[u8], at: usize) -> Field
+    requires { ⌜ at + 10 ≤ length (now image) ⌝ }
+    ensures { λ r. ⌜ r ≡ fieldBy (now (image .entry)) at 0x14 ⌝ }
+{
+    Field {
+        image: ImagePlace(at),
+        sheet: SheetPlace(word_in(image, at + 4)),
+        kind: Kind::Option {
+            items: image[at + 7],
+            longest: image[at + 8],
+        },
+        default: value_at(image, at + 9, 1),
+    }
+}
+
+// Whether an option's default is one of its items.
+fn option_fits(image: &[u8], at: usize) -> bool
+    requires { ⌜ at + 10 ≤ length (now image) ⌝ }
+    ensures { λ r. ⌜ r ≡ settingsFit (kindAt (now (image .entry)) at 0x14) (fieldBy (now (image .entry)) at 0x14 .default) ⌝ }
+{
+    image[at + 9] < image[at + 7]
+}
+
+// The option that ends at `end`.
+fn option_read(image: &[u8], at: usize, tag: u8, end: usize) -> Component
+    requires { ⌜ (at + 10 ≤ length (now image)) × (end ≤ length (now image)) ⌝ }
+    ensures { λ r. ⌜ r ≡ componentRead (now (image .entry)) at 0x14 tag end ⌝ }
+{
+    Component {
+        refusal: nine_unless(option_fits(image, at)),
+        last: tag / 128 % 2 == 1,
+        editable: tag / 32 % 2 == 1,
+        holds: true,
+        field: option_field(image, at),
+        end,
+        next: end + end % 2,
+    }
+}
+
+fn option_by(image: &[u8], at: usize, tag: u8) -> Component
+    requires { ⌜ at < length (now image) ⌝ }
+    ensures { λ r. ⌜ r ≡ componentBy (now (image .entry)) at 0x14 tag ⌝ }
+{
+    let whole = room(image, at, 10);
     if whole {
+        let t = read_texts(image, image[at + 7] as usize, at + 10);
         if t.fits {
-            let given = is_given(image, at, code, edit, t);
+            let given = option_given(image, at, t);
             if given {
-                return component_read(image, at, code, tag, t.end);
+                return option_read(image, at, tag, t.end);
             }
             return Component::refused(image, at, 7);
         }
@@ -290,25 +376,18 @@ fn laid_out(image: &[u8], at: usize, code: u8, tag: u8, t: Run) -> Component
     Component::refused(image, at, 6)
 }
 
-fn component_by(image: &[u8], at: usize, code: u8, tag: u8) -> Component
-    requires { ⌜ at < length (now image) ⌝ }
-    ensures { λ r. ⌜ r ≡ componentBy (now (image .entry)) at code tag ⌝ }
-{
-    if code < Image::CODES {
-        let edit = tag / 32 % 2;
-        let fixed = fixed_bytes(code, edit);
-        let t = read_texts(image, text_count(image, at, code), at + fixed);
-        return laid_out(image, at, code, tag, t);
-    }
-    Component::refused(image, at, 7)
-}
-
 // The component whose tag stands at a place.
 pub fn read_component(image: &[u8], at: usize) -> Component
     ensures { λ r. ⌜ r ≡ componentAt (now (image .entry)) at ⌝ }
 {
     if at < image.len() {
-        let tag = byte_at(image, at);
+        let tag = image[at];
+        if tag % 64 == 0x15 {
+            return string_by(image, at, tag);
+        }
+        if tag % 32 == 0x14 {
+            return option_by(image, at, tag);
+        }
         return component_by(image, at, tag % 32, tag);
     }
     Component::refused(image, at, 6)

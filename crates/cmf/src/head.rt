@@ -6,9 +6,11 @@ ghost use lib.ListN.{length};
 ghost use Rattle.laws.specs.Choice.{if_then_else_};
 ghost use Rattle.cmf.specs.Readers.{textsFrom, passwordFits, headRefused, passwords, optionsEnd, headRead, headBy, headAt};
 use crate::image::Image;
+use crate::image::word_in;
 use crate::text::password_fits;
 use crate::text::read_texts;
 use laws::byte_at;
+use laws::room;
 use laws::word_at;
 
 // refusal: 0, or 6 or 7. good: its password, if it has one, is one. first, last: of its table. back: the distance from the line before.
@@ -30,6 +32,9 @@ pub struct Head {
 }
 
 impl Head {
+    // The bytes that a tag and its options take at most, without a password.
+    pub(crate) const MOST: usize = 9;
+
     // Not all there, or no head: the last of its table, and it leads nowhere.
     fn refused(p: usize, code: u8) -> Self
         ensures { λ r. ⌜ r ≡ headRefused p code ⌝ }
@@ -110,8 +115,8 @@ fn head_by(image: &[u8], p: usize, tag: u8) -> Head
     Head::refused(p, 6)
 }
 
-// The head of the line whose tag stands at a place.
-pub fn read_head(image: &[u8], p: usize) -> Head
+// The head whatever its tag.
+pub(crate) fn any_head(image: &[u8], p: usize) -> Head
     ensures { λ r. ⌜ r ≡ headAt (now (image .entry)) p ⌝ }
 {
     if p < image.len() {
@@ -122,4 +127,45 @@ pub fn read_head(image: &[u8], p: usize) -> Head
         return Head::refused(p, 7);
     }
     Head::refused(p, 6)
+}
+
+// The head without a password, with room for all options.
+fn short_head(image: &[u8], p: usize, tag: u8) -> Head
+    requires { ⌜ (p + 9 ≤ length (now image)) × (tag < 16) ⌝ }
+    ensures { λ r. ⌜ r ≡ headRead (now (image .entry)) p tag (optionsEnd p tag) ⌝ }
+{
+    let t = tag as usize;
+    let back = p + 1 + 2 * (1 - t / 2 % 2);
+    let submenu = back + 2 * (1 - t % 2) + 2 * (t / 4 % 2);
+    let end = submenu + 2 * (t / 8 % 2);
+    Head {
+        refusal: 0,
+        good: true,
+        first: t % 2 == 1,
+        last: t / 2 % 2 == 1,
+        submenu: t / 8 % 2 == 1,
+        protected: false,
+        back: word_in(image, back),
+        next: p + word_in(image, p + 1),
+        table: Image::PROLOG + word_in(image, submenu),
+        password: end,
+        end,
+        component: end + end % 2,
+    }
+}
+
+// The head of the line whose tag stands at a place.
+pub fn read_head(image: &[u8], p: usize) -> Head
+    ensures { λ r. ⌜ r ≡ headAt (now (image .entry)) p ⌝ }
+{
+    let whole = room(image, p, Head::MOST);
+    if whole {
+        let tag = image[p];
+        if tag < 16 {
+            return short_head(image, p, tag);
+        }
+    }
+    // A local of its own, so that a short head is not copied.
+    let other = any_head(image, p);
+    other
 }

@@ -1,9 +1,77 @@
 // The way through an image: lines of a table by their number.
 ghost use mathlib.Core.Path.{_≡_};
+ghost use mathlib.Core.Bool.{true};
+ghost use Prim.Native.Nat.{_+_, _<_, _≤_};
+ghost use lib.ListN.{length};
+ghost use Rattle.laws.specs.Choice.{_=?_};
+ghost use Rattle.laws.specs.Bytes.{wordAt};
+ghost use Rattle.cmf.specs.Readers.{tagBit, optionsEnd, textsFrom, headAt};
 ghost use Rattle.cmf.specs.Places.{lineAt, lineCount};
-use crate::head::read_head;
+use crate::head::Head;
+use crate::head::any_head;
 use crate::image::Image;
+use crate::image::word_in;
+use crate::text::read_texts;
 use crate::title::read_title;
+use laws::room;
+
+// Of a line's head what leads on: whether the line is the last of its table, and the place of the next line.
+struct Step {
+    last: bool,
+    next: usize,
+}
+
+impl Step {
+    // What the tag and the two bytes behind it say.
+    fn read(image: &[u8], p: usize, tag: u8) -> Self
+        requires { ⌜ p + 9 ≤ length (now image) ⌝ }
+        ensures { λ r. ⌜ (r .last ≡ (tagBit 2 tag =? 1)) × (r .next ≡ p + wordAt (now (image .entry)) (p + 1)) ⌝ }
+    {
+        Step {
+            last: tag / 2 % 2 == 1,
+            next: p + word_in(image, p + 1),
+        }
+    }
+}
+
+// Whether a tag asks for a submenu and its password, and the password is all there.
+fn has_password(image: &[u8], p: usize, tag: u8) -> bool
+    requires { ⌜ p + 9 ≤ length (now image) ⌝ }
+    ensures { λ r. ⌜ (r ≡ true → (24 ≤ tag) × (tag < 32) × (textsFrom (now (image .entry)) 1 (optionsEnd p tag) 0 .fits ≡ true)) ⌝ }
+{
+    if tag < 24 {
+        return false;
+    }
+    if 31 < tag {
+        return false;
+    }
+    let t = tag as usize;
+    let options = p + 1 + 2 * (1 - t / 2 % 2) + 2 * (1 - t % 2) + 2 * (t / 4 % 2) + 2 * (t / 8 % 2);
+    let run = read_texts(image, 1, options);
+    run.fits
+}
+
+// Where the options have room, and a password too, no head needs to be read.
+fn step_at(image: &[u8], p: usize) -> Step
+    ensures { λ r. ⌜ (r .last ≡ headAt (now (image .entry)) p .last) × (r .next ≡ headAt (now (image .entry)) p .next) ⌝ }
+{
+    let whole = room(image, p, Head::MOST);
+    if whole {
+        let tag = image[p];
+        if tag < 16 {
+            return Step::read(image, p, tag);
+        }
+        let protected = has_password(image, p, tag);
+        if protected {
+            return Step::read(image, p, tag);
+        }
+    }
+    let h = any_head(image, p);
+    Step {
+        last: h.last,
+        next: h.next,
+    }
+}
 
 // The place of line k of a table, from 0; without meaning past the table's last line.
 pub fn line_at(image: &[u8], table: usize, k: usize) -> usize
@@ -13,7 +81,7 @@ pub fn line_at(image: &[u8], table: usize, k: usize) -> usize
     let mut p = title.line;
     let mut left = k;
     while 0 < left {
-        let h = read_head(image, p);
+        let h = step_at(image, p);
         p = h.next;
         left = left - 1;
     }
@@ -28,7 +96,7 @@ pub fn line_count(image: &[u8], table: usize) -> usize
     let mut p = title.line;
     let mut n = 0;
     while n < Image::MAX_TABLE_LINES + 1 {
-        let h = read_head(image, p);
+        let h = step_at(image, p);
         n = n + 1;
         if h.last {
             return n;

@@ -1,6 +1,7 @@
 // Texts: a length byte and so many bytes; several of them one behind the other.
 ghost use mathlib.Core.Path.{_≡_};
-ghost use Rattle.cmf.specs.Readers.{textsFrom, allDigits, passwordFits, itemFrom, itemPlace, textBytes};
+ghost use mathlib.Core.Bool.{false};
+ghost use Rattle.cmf.specs.Readers.{runOf, textsFrom, allDigits, passwordFits, itemFrom, itemPlace, textBytes};
 ghost use Prim.Native.Nat.{_+_, _<_, max};
 use crate::image::Image;
 use laws::byte_at;
@@ -11,6 +12,19 @@ pub struct Run {
     pub fits: bool,
     pub end: usize,
     pub longest: u8,
+}
+
+impl Run {
+    // Texts that the image does not hold all of, up to the one that is cut.
+    fn cut(end: usize, longest: u8) -> Self
+        ensures { λ r. ⌜ r ≡ runOf false end longest ⌝ }
+    {
+        Run {
+            fits: false,
+            end,
+            longest,
+        }
+    }
 }
 
 fn larger(a: u8, b: u8) -> u8
@@ -27,28 +41,17 @@ pub fn read_texts(image: &[u8], count: usize, at: usize) -> Run
     let mut longest = 0;
     let mut left = count;
     while 0 < left {
-        let head = room(image, end, 1);
-        if head {
-            let n = byte_at(image, end);
-            let whole = room(image, end + 1, n as usize);
-            if whole {
-                end = end + 1 + n as usize;
-                longest = larger(longest, n);
-                left = left - 1;
-            } else {
-                return Run {
-                    fits: false,
-                    end,
-                    longest,
-                };
-            }
-        } else {
-            return Run {
-                fits: false,
-                end,
-                longest,
-            };
+        if image.len() <= end {
+            return Run::cut(end, longest);
         }
+        let n = image[end];
+        let next = end + 1 + n as usize;
+        if image.len() < next {
+            return Run::cut(end, longest);
+        }
+        end = next;
+        longest = larger(longest, n);
+        left = left - 1;
     }
     Run {
         fits: true,

@@ -1,24 +1,18 @@
 -- Cells padded with 0: a sign and digits written onto blank cells, and a value's four bytes.
-use Prim.Native.Nat.{ℕ, zero, suc, _+_, _/_, _%_, _≤_}
-use mathlib.Core.Path.{_≡_, refl, ap, _∙_}
+use Prim.Native.Nat.{ℕ, _+_, _/_, _%_, _≤_}
+use mathlib.Core.Path.{_≡_, ap, _∙_}
 use mathlib.Core.List.{List, [], _∷_}
-use mathlib.Core.Bool.{Bool}
-use native.Mathlib.Omega.{arith}
-use lib.ListN.{length, getD, set, replicate, drop-of-length-le}
+use lib.ListN.{length, set, replicate, drop-of-length-le}
 use lib.Seq.{take-nil}
-use Rattle.laws.specs.Choice.{if_then_else_, _and_, _<?_}
+use Rattle.laws.specs.Choice.{if_then_else_, _<?_}
 use Rattle.laws.specs.Parts.{partAt}
 use Rattle.laws.specs.Overwrite.{over, fit}
 use Rattle.laws.specs.Digits.{lowFirst}
 use Rattle.laws.specs.Bytes.{byteAt}
-use Rattle.laws.proofs.Overwriting.{over-blank, fit-at, fit-four}
+use Rattle.laws.proofs.Overwriting.{over-blank, fit-four}
 use Rattle.laws.proofs.Lists.{part-at}
 use Rattle.laws.proofs.Numerals.{low-at}
 use native.Mathlib.Nat.{div-one, add-zero}
-use Rattle.field.specs.Table.{cellOf, profileOf}
-use Rattle.field.specs.Cells.{within, legalTo, legal}
-use Rattle.field.specs.declared.kind.Kind.{Kind}
-use Rattle.field.proofs.Bounds.{profile-cells}
 
 -- digits written onto blank cells
 pub plain-cells : (ds : List ℕ) → over (replicate 32 0) 0 ds ≡ fit 0 32 ds
@@ -29,17 +23,6 @@ plain-cells ds = over-blank 0 32 ds
 pub signed-cells : (y : ℕ) (ds : List ℕ) → over (set (replicate 32 0) 0 y) 1 ds ≡ fit 0 32 (y ∷ ds)
 unfolding over fit
 signed-cells y ds = ap (λ (l : List ℕ). y ∷ l) (over-blank 0 31 ds)
-
--- padding does not change what the cells are
-legal-to-padded : (k : Kind) (cs : List ℕ) (n : ℕ) → n ≤ 32 → legalTo k (fit 0 32 cs) n ≡ legalTo k cs n
-unfolding legalTo
-legal-to-padded k cs zero h = refl
-legal-to-padded k cs (suc n) h =
-    rw (legal-to-padded k cs n (omega arith), fit-at 0 32 cs n (omega arith))
-
-pub legal-padded : (k : Kind) (cs : List ℕ) → legal k (fit 0 32 cs) ≡ legal k cs
-unfolding legal
-legal-padded k cs = legal-to-padded k cs (profileOf k .cells) (profile-cells k)
 
 -- a value read byte by byte
 pub part-four : (at n : ℕ) (s : List ℕ) → fit 0 4 (partAt at n s)

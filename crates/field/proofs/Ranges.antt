@@ -1,13 +1,13 @@
 -- Ranges of the numbers in digits, which are integers and switches: the eleven of the integer formats by computation,
 -- and that a number in its range has legal cells, whatever the format.
-use Prim.Native.Nat.{ℕ, _+_, _-_, _≤_, _<_}
+use Prim.Native.Nat.{ℕ, _+_, _-_, _/_, _%_, _≤_, _<_}
 use mathlib.Core.Path.{_≡_, refl, sym, _∙_}
 use mathlib.Core.List.{List, [], _∷_, map}
 use native.Mathlib.Omega.{arith}
 use lib.ListN.{length, getD, length-append}
 use borrow.Author.Tests.{ltb-true, ltb-false, eqb-true, eqb-false}
 use lib.Dec.{lit≤}
-use mathlib.Core.Bool.{Bool, true}
+use mathlib.Core.Bool.{Bool, true, false}
 use Rattle.laws.specs.Choice.{if_then_else_, _and_, _=?_, _<?_}
 use Rattle.laws.specs.Digits.{digitsOf}
 use Rattle.laws.proofs.Cases.{if-ind, if-max, if-ne, if-lt, if-ge, and-second}
@@ -147,15 +147,20 @@ pub range-of-option : (n w x : ℕ) → inRange (Option n w) x ≡ within (cellO
 unfolding inRange inSpan legal legalTo profileOf cellsOf _and_
 range-of-option n w x = refl
 
--- a time or date is settled by its cells, and so is a trigger
-pub range-of-time : (long : Bool) (x : ℕ) → inRange (Time long) x ≡ legal (Time long) (cellsOf (Time long) x)
-unfolding inRange inSpan _and_
-range-of-time long x = refl
+-- a time or date is its three cells: seconds that a time has not are 0, which is within
+pub range-of-time : (long : Bool) (x : ℕ) → inRange (Time long) x
+    ≡ (within (cellOf (Time long) 0) (x % 256) and within (cellOf (Time long) 1) (x / 256 % 256))
+    and within (cellOf (Time long) 2) (if long then x / 65536 % 256 else 0)
+unfolding inRange inSpan legal legalTo profileOf cellsOf cellOf within _and_ if_then_else_
+range-of-time true x = refl
+range-of-time false x = sym (and-second _ refl)
 
-pub range-of-date : (long : Bool) (x : ℕ) → inRange (Date long) x ≡ legal (Date long) (cellsOf (Date long) x)
-unfolding inRange inSpan _and_
+pub range-of-date : (long : Bool) (x : ℕ) → inRange (Date long) x
+    ≡ (within (cellOf (Date long) 0) (x / 65536) and within (cellOf (Date long) 1) (x / 256 % 256)) and within (cellOf (Date long) 2) (x % 256)
+unfolding inRange inSpan legal legalTo profileOf cellsOf _and_
 range-of-date long x = refl
 
+-- a trigger is always in range
 pub range-of-trigger : (x : ℕ) → inRange Trigger x ≡ true
 unfolding inRange inSpan legal legalTo profileOf cellOf cellsOf within _and_
 range-of-trigger x = refl

@@ -172,16 +172,28 @@ fn is_within(c: Cell, x: u32) -> bool
     false
 }
 
-// Whether a number that the field's bytes can hold is in its range. The digits of an integer or switch are legal by themselves, so that no cells
-// are made for them, nor for a single cell.
+// Whether three cells of a kind are within their ends.
+fn are_within(kind: Kind, a: u32, b: u32, c: u32) -> bool
+    ensures { λ r. ⌜ r ≡ (within (cellOf kind 0) a and within (cellOf kind 1) b) and within (cellOf kind 2) c ⌝ }
+{
+    if is_within(cell_of(kind, 0), a) {
+        if is_within(cell_of(kind, 1), b) {
+            return is_within(cell_of(kind, 2), c);
+        }
+    }
+    false
+}
+
+// Whether a number that the field's bytes can hold is in its range. No cells are made for it: the digits of an integer or switch are legal by
+// themselves, and the parts of a time or date are its bytes.
 pub fn in_range(kind: Kind, x: u32) -> bool
     ensures { λ r. ⌜ r ≡ inRange kind x ⌝ }
 {
     match kind {
         Kind::Integer(f) => f.numeral().spans(x as u64),
         Kind::Counter(_) => is_within(cell_of(kind, 0), bias(x as u64) as u32),
-        Kind::Time(_) => Work::showing(kind, x).legal(kind),
-        Kind::Date(_) => Work::showing(kind, x).legal(kind),
+        Kind::Time(long) => are_within(kind, x % 256, x / 256 % 256, third(long, x)),
+        Kind::Date(_) => are_within(kind, x / 65536, x / 256 % 256, x % 256),
         Kind::Switch(n) => Numeral::of_bits(n).spans(x as u64),
         Kind::Option {
             items: _,

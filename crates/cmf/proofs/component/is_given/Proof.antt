@@ -1,6 +1,5 @@
 -- Each return is the case of the definition that the tests on its path choose.
-use Rattle.laws.proofs.Cases.{tests}
-use Rattle.laws.proofs.Cases.{choices}
+use Rattle.laws.proofs.Cases.{tests, choices}
 use native.Mathlib.Omega.{arith}
 use Rattle.laws.specs.Choice.{if_then_else_}
 use borrow.Author.Tests.{le-ltb, lt-leb, ne-eqb}
@@ -37,24 +36,17 @@ cast-result c = search needs
 add-result : tie.Need-add-result
 add-result c = search needs
 
-option-given-requires : tie.Need-option-given-requires
-option-given-requires c κs = search needs
-
 returns-5 : tie.Need-returns-5
 unfolding given if_then_else_
 returns-5 c = simp (c .before .before .match .keys1, c .before .byte-at .ensures)
 
 returns-6 : tie.Need-returns-6
 unfolding given if_then_else_
-returns-6 c = simp (c .before .match .keys2, c .option-given .ensures)
+returns-6 c = simp (c .match .keys2)
 
 returns-7 : tie.Need-returns-7
 unfolding given if_then_else_
-returns-7 c = simp (c .match .keys3)
-
-returns-8 : tie.Need-returns-8
-unfolding given if_then_else_
-returns-8 c = simp (lt-leb _ _ (c .before .before .before .before .if1 .left), ne-eqb _ _ (c .before .before .before .if2 .left), le-ltb _ _ (c .before .before .if3 .left), lt-leb _ _ (c .before .if4 .left)) (search tests)
+returns-7 c = simp (lt-leb _ _ (c .before .before .before .before .if1 .left), ne-eqb _ _ (c .before .before .before .if2 .left), le-ltb _ _ (c .before .before .if3 .left), lt-leb _ _ (c .before .if4 .left), ne-eqb _ _ (c .before .before .before .before .before .before .pre .1)) (search tests)
 
 pub is-given-spec : {M : Type 1} → statement M
 is-given-spec =
@@ -68,8 +60,6 @@ is-given-spec =
     byte-at-requires
     cast-result
     add-result
-    option-given-requires
     returns-5
     returns-6
-    returns-7
-    returns-8)
+    returns-7)

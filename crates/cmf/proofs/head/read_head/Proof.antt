@@ -1,43 +1,32 @@
--- Each return is the case of the definition that the tests on its path choose.
-use Rattle.laws.specs.Choice.{if_then_else_}
-use borrow.Author.Tests.{lt-ltb, le-ltb}
-use Rattle.cmf.specs.Readers.{headAt}
+-- Short of a password and with room for every option the tests of the definition are settled.
+use native.Mathlib.Omega.{arith}
+use mathlib.Core.Path.{_∙_, sym}
+use Rattle.laws.proofs.Cases.{via}
+use Rattle.laws.proofs.Rooms.{room-le}
+use Rattle.cmf.proofs.Turning.{head-short}
 use borrow.Author.Needs.{needs}
 use Rattle.cmf.proofs.head.read_head.Statement.{statement}
 use Rattle.cmf.proofs.head.read_head.Tie as tie
 
-byte-at-requires : tie.Need-byte-at-requires
-byte-at-requires c κs = search needs
+room-requires : tie.Need-room-requires
+room-requires c κs = search needs
 
-head-by-requires : tie.Need-head-by-requires
-head-by-requires c κs = search needs
+shared-slice-read-tag : tie.Need-shared-slice-read-tag
+shared-slice-read-tag c = omega (arith, room-le _ _ _ (via (c .before .before .room .ensures) (c .before .if1 .taken)))
+
+short-head-requires : tie.Need-short-head-requires
+short-head-requires c κs = (room-le _ _ _ (via (c .before .before .before .room .ensures) (c .before .before .if1 .taken)), c .if2 .taken)
 
 returns : tie.Need-returns
-unfolding headAt if_then_else_
-returns c = simp (c .head-by .ensures, ← c .before .before .byte-at .ensures, lt-ltb _ _ (c .before .before .before .if1 .taken), lt-ltb _ _ (c .before .if2 .taken))
+returns c = c .short-head .ensures ∙ sym (head-short (c .before .before .before .before .before .before .args .image .now) (c .before .before .before .before .before .before .args .p) (room-le _ _ _ (via (c .before .before .before .before .room .ensures) (c .before .before .before .if1 .taken))) (c .before .if2 .taken))
 
-refused-requires : tie.Need-refused-requires
-refused-requires c κs = search needs
+any-head-requires : tie.Need-any-head-requires
+any-head-requires c κs = search needs
 
 returns-2 : tie.Need-returns-2
-unfolding headAt if_then_else_
-returns-2 c = simp (c .refused .ensures, ← c .before .before .byte-at .ensures, lt-ltb _ _ (c .before .before .before .if1 .taken), le-ltb _ _ (c .before .if2 .left))
-
-refused-requires-2 : tie.Need-refused-requires-2
-refused-requires-2 c κs = search needs
-
-returns-3 : tie.Need-returns-3
-unfolding headAt if_then_else_
-returns-3 c = simp (c .refused2 .ensures, le-ltb _ _ (c .before .if1 .left))
+returns-2 c = c .any-head .ensures
 
 pub read-head-spec : {M : Type 1} → statement M
 read-head-spec =
     tie.close
-    (tie.spec
-    byte-at-requires
-    head-by-requires
-    returns
-    refused-requires
-    returns-2
-    refused-requires-2
-    returns-3)
+    (tie.spec room-requires shared-slice-read-tag short-head-requires returns any-head-requires returns-2)

@@ -19,8 +19,8 @@ read-title-requires c κs = search needs
 loop-holds : tie.Need-loop-holds Inv-loop μ-loop
 loop-holds c = refl
 
-read-head-requires : tie.Need-read-head-requires Inv-loop μ-loop
-read-head-requires c κs = search needs
+step-at-requires : tie.Need-step-at-requires Inv-loop μ-loop
+step-at-requires c κs = search needs
 
 sub-left : tie.Need-sub-left Inv-loop μ-loop
 sub-left c = omega arith
@@ -29,7 +29,7 @@ loop-less : tie.Need-loop-less Inv-loop μ-loop
 loop-less c = omega arith
 
 loop-again : tie.Need-loop-again Inv-loop μ-loop
-loop-again c = line-turn (c .before .before .before .before .before .args .image .now) (c .before .before .loop .left) (c .before .before .loop .p) (c .read-head .result) (c .before .loop-test .taken) (c .read-head .ensures) ∙ c .before .before .loop .inv
+loop-again c = line-turn (c .before .before .before .before .before .args .image .now) (c .before .before .loop .left) (c .before .before .loop .p) (c .step-at .result .next) (c .before .loop-test .taken) (c .step-at .ensures .1) ∙ c .before .before .loop .inv
 
 returns : tie.Need-returns Inv-loop μ-loop
 unfolding lineFrom lineAt
@@ -43,7 +43,7 @@ line-at-spec =
     μ-loop
     read-title-requires
     loop-holds
-    read-head-requires
+    step-at-requires
     sub-left
     loop-less
     loop-again

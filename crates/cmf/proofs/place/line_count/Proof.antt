@@ -24,21 +24,21 @@ loop-holds c = omega arith
 add-loop : tie.Need-add-loop Inv-loop μ-loop
 add-loop c = omega arith
 
-read-head-requires : tie.Need-read-head-requires Inv-loop μ-loop
-read-head-requires c κs = search needs
+step-at-requires : tie.Need-step-at-requires Inv-loop μ-loop
+step-at-requires c κs = search needs
 
 add-n : tie.Need-add-n Inv-loop μ-loop
 add-n c = omega arith
 
 returns : tie.Need-returns Inv-loop μ-loop
 unfolding lineCount linesOf
-returns c = sym (count-last (c .before .before .before .before .before .before .args .image .now) (c .before .before .before .loop .n) (c .before .before .before .loop .p) (c .before .read-head .result) (c .before .before .loop-test .taken) (c .before .read-head .ensures) (c .if1 .taken)) ∙ c .before .before .before .loop .inv ∙ rw (c .before .before .before .before .read-title .ensures)
+returns c = sym (count-last (c .before .before .before .before .before .before .args .image .now) (c .before .before .before .loop .n) (c .before .before .before .loop .p) (c .before .before .loop-test .taken) (sym (c .if1 .taken) ∙ c .before .step-at .ensures .0)) ∙ c .before .before .before .loop .inv ∙ rw (c .before .before .before .before .read-title .ensures)
 
 loop-less : tie.Need-loop-less Inv-loop μ-loop
 loop-less c = omega arith
 
 loop-again : tie.Need-loop-again Inv-loop μ-loop
-loop-again c = sym (count-next (c .before .before .before .before .before .before .args .image .now) (c .before .before .before .loop .n) (c .before .before .before .loop .p) (c .before .read-head .result) (c .before .before .loop-test .taken) (c .before .read-head .ensures) (c .if1 .left)) ∙ c .before .before .before .loop .inv
+loop-again c = sym (count-next (c .before .before .before .before .before .before .args .image .now) (c .before .before .before .loop .n) (c .before .before .before .loop .p) (c .before .step-at .result .next) (c .before .before .loop-test .taken) (sym (c .if1 .left) ∙ c .before .step-at .ensures .0) (c .before .step-at .ensures .1)) ∙ c .before .before .before .loop .inv
 
 returns-2 : tie.Need-returns-2 Inv-loop μ-loop
 unfolding lineCount linesOf
@@ -53,7 +53,7 @@ line-count-spec =
     read-title-requires
     loop-holds
     add-loop
-    read-head-requires
+    step-at-requires
     add-n
     returns
     loop-less

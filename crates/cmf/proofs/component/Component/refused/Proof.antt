@@ -1,15 +1,17 @@
--- Each return is the case of the definition that the tests on its path choose.
+-- At a trigger's code the definition comes to a trigger without a place.
 use Rattle.laws.specs.Choice.{if_then_else_}
-use mathlib.Core.Path.{refl}
-use Rattle.cmf.specs.Readers.{kindAt, sheetPlaceAt, defaultPlace}
+use Rattle.cmf.specs.Readers.{kindAt, sheetPlaceAt}
 use Rattle.field.specs.Table.{profileOf}
-use Rattle.laws.specs.Overwrite.{fit}
+use borrow.Author.Needs.{needs}
 use Rattle.cmf.proofs.component.Component.refused.Statement.{statement}
 use Rattle.cmf.proofs.component.Component.refused.Tie as tie
 
+trigger-requires : tie.Need-trigger-requires
+trigger-requires c κs = search needs
+
 returns : tie.Need-returns
-unfolding kindAt sheetPlaceAt defaultPlace profileOf if_then_else_ fit
-returns c = refl
+unfolding kindAt sheetPlaceAt profileOf if_then_else_
+returns c = rw (c .trigger .ensures)
 
 pub refused-spec : {M : Type 1} → statement M
-refused-spec = tie.close (tie.spec returns)
+refused-spec = tie.close (tie.spec trigger-requires returns)
