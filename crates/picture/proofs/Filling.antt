@@ -100,15 +100,22 @@ length-picture im sheet s h l =
     rows-sum c zero q = absurd (omega arith)
     rows-sum c (suc n) q = let z : suc n - 1 ≡ n = omega arith in rw z (omega arith)
 
--- row 0, then the others, onto a picture of that size
+-- what is written in front and what is written behind it may change places
+over-ahead : (d s t : List ℕ) → over (over d (length s) t) 0 s ≡ over (over d 0 s) (length s) t
+unfolding over
+over-ahead [] s t = refl
+over-ahead (x ∷ d) [] t = over-nil (over (x ∷ d) 0 t) 0
+over-ahead (x ∷ d) (y ∷ s) t = ap (λ (r : List ℕ). y ∷ r) (over-ahead d s t)
+
+-- the rows below row 0, then row 0, onto a picture of that size
 pub picture-whole : (im sheet : List ℕ) (s : Session) (d e f row : List ℕ) → 4 ≤ s .columns → 1 ≤ s .lines → length d ≡ s .columns * s .lines
-    → row ≡ topRow im s → e ≡ over d 0 row → f ≡ over e (s .columns) (rowsBelow im sheet s) → f ≡ pictureOf im sheet s
+    → row ≡ topRow im s → e ≡ over d (s .columns) (rowsBelow im sheet s) → f ≡ over e 0 row → f ≡ pictureOf im sheet s
 unfolding pictureOf
 picture-whole im sheet s d e f row h l n a b g =
-    let c : length (topRow im s) ≡ s .columns = length-top im s (s .mode) h in
-    let z : 0 + length (topRow im s) ≡ s .columns = omega arith in
+    let c : s .columns ≡ length (topRow im s) = sym (length-top im s (s .mode) h) in
+    let z : length (topRow im s) ≡ 0 + length (topRow im s) = omega arith in
     g
-    ∙ rw (b, a) (ap (λ (i : ℕ). over (over d 0 (topRow im s)) i (rowsBelow im sheet s)) (sym z) ∙ over-next d 0 (topRow im s) (rowsBelow im sheet s) ∙ over-all d (topRow im s ++ rowsBelow im sheet s) (length-picture im sheet s h l ∙ sym n))
+    ∙ rw (b, a) (ap (λ (i : ℕ). over (over d i (rowsBelow im sheet s)) 0 (topRow im s)) c ∙ over-ahead d (topRow im s) (rowsBelow im sheet s) ∙ ap (λ (i : ℕ). over (over d 0 (topRow im s)) i (rowsBelow im sheet s)) z ∙ over-next d 0 (topRow im s) (rowsBelow im sheet s) ∙ over-all d (topRow im s ++ rowsBelow im sheet s) (length-picture im sheet s h l ∙ sym n))
 
 -- the picture of a display of at most 255 columns and lines
 pub area : (a b : ℕ) → a ≤ 255 → b ≤ 255 → a * b ≤ 65025

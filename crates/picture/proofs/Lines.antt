@@ -9,13 +9,15 @@ use Rattle.laws.specs.Choice.{if_then_else_, _=?_}
 use Rattle.laws.specs.Bytes.{byteAt}
 use Rattle.laws.specs.Overwrite.{fit}
 use Rattle.laws.proofs.Overwriting.{length-fit, fit-take}
-use Rattle.laws.proofs.Cases.{if-true, if-false}
+use borrow.Author.Tests.{eqb-true, eqb-false}
+use Rattle.laws.proofs.Cases.{if-true, if-false, if-eq, if-ne, by-test}
 use Rattle.cmf.specs.Readers.{textBytes, headAt, componentAt}
-use Rattle.cmf.specs.Places.{componentsFrom, componentsOf, lineCount}
+use Rattle.cmf.specs.Places.{componentsFrom, componentsOf, lineAt, lineCount}
 use Rattle.cmf.specs.declared.head.Head.{Head}
 use Rattle.cmf.specs.declared.component.Component.{Component}
 use Rattle.session.specs.Fits.{mostColumns, cursorLine, cursorHead}
 use Rattle.session.specs.Browsing.{firstEditable, lineFromHere}
+use Rattle.session.proofs.Moving.{editable-here, editable-last, editable-next}
 use Rattle.session.specs.declared.browse.Found.{Found}
 use Rattle.session.specs.declared.session.Level.{Level}
 use Rattle.session.specs.declared.session.Session.{Session}
@@ -102,12 +104,12 @@ pub line-row-is : {x y u v z : List ℕ} {m e : ℕ} (im sheet : List ℕ) (s : 
 unfolding lineRow componentsOf
 line-row-is im sheet s k p h a b q n r f g i j o = line-row (s .columns) a b r f g i o ∙ rw (n, j, q)
 
-pub title-row-is : {x y u v r z t : List ℕ} {count e m : ℕ} (im : List ℕ) (s : Session) → 4 ≤ s .columns → s .columns ≤ mostColumns
-    → count ≡ lineCount im (s .here .table .0) → t ≡ textBytes im (s .here .table .0) → x ≡ [] → Behind x t y → u ≡ kept (fit blank (s .columns - 4) y)
+pub title-row-is : {x y u v r z t : List ℕ} {e m : ℕ} (im : List ℕ) (s : Session) (count : ℕ) → 4 ≤ s .columns → s .columns ≤ mostColumns
+    → moreMark count (s .lines - 1) (s .here .cursor) ≡ moreMark (lineCount im (s .here .table .0)) (s .lines - 1) (s .here .cursor) → t ≡ textBytes im (s .here .table .0) → x ≡ [] → Behind x t y → u ≡ kept (fit blank (s .columns - 4) y)
     → e ≡ editMark im (s .here) → Behind u (e ∷ []) v → Behind v (lineNumber (s .here .cursor + 1)) r
     → m ≡ moreMark count (s .lines - 1) (s .here .cursor) → Behind r (m ∷ []) z → z ≡ titleRow im s
 unfolding titleRow
-title-row-is im s a b n f g h i j k l o q =
+title-row-is im s count a b n f g h i j k l o q =
     title-row (s .columns) a b (number-length (s .here .cursor + 1)) g h i k l q ∙ rw (j, o, n, f)
 
 pub password-row-is : {x y u v r t o z : List ℕ} {d k : ℕ} (im : List ℕ) (s : Session) (h : Head) (n : ℕ) → s .columns ≤ mostColumns → h ≡ cursorHead im (s .here)
@@ -130,3 +132,54 @@ module _ (im : List ℕ) (l : Level) (h : Head) (f : Found) (e : h ≡ cursorHea
   pub mark-none : f .found ≡ false → star ≡ editMark im l
   unfolding editMark
   mark-none t = sym (rw (← first-is) (if-false _ _ t))
+
+-- ---- the mark of a line in row 0, as its row tells it
+
+abbrev pub markOf : Found → ℕ
+markOf f = if f .found then colon else star
+
+module _ (im : List ℕ) (left p : ℕ) (c : Component) (all : Found) (mark r : ℕ) (l : 0 < left) (e : c ≡ componentAt im p)
+    (before : mark ≡ 0 → firstEditable im (componentsFrom im left p) ≡ all) (told : (mark ≡ 0 → ⊥) → mark ≡ markOf all)
+    (q : r ≡ (if mark =? 0 then (if c .editable then colon else if c .last then star else 0) else mark)) where
+  here-editable : mark ≡ 0 → c .editable ≡ true → r ≡ markOf all
+  unfolding if_then_else_
+  here-editable z a = q ∙ if-eq mark 0 _ _ z ∙ if-true _ _ a ∙ rw (sym (before z) ∙ editable-here im left p c l e a)
+
+  here-last : mark ≡ 0 → c .editable ≡ false → c .last ≡ true → r ≡ markOf all
+  unfolding if_then_else_
+  here-last z a b = q ∙ if-eq mark 0 _ _ z ∙ if-false _ _ a ∙ if-true _ _ b ∙ rw (sym (before z) ∙ editable-last im left p c l e a b)
+
+  here-none : mark ≡ 0 → c .editable ≡ false → c .last ≡ false → r ≡ 0
+  here-none z a b = q ∙ if-eq mark 0 _ _ z ∙ if-false _ _ a ∙ if-false _ _ b
+
+  pub mark-told : (r ≡ 0 → ⊥) → r ≡ markOf all
+  mark-told n =
+      by-test (mark =? 0)
+      (λ h. let z = eqb-true mark 0 h in
+      by-test (c .editable) (λ a. here-editable z a) (λ a. by-test (c .last) (λ b. here-last z a b) (λ b. absurd (n (here-none z a b)))))
+      (λ h. let k = eqb-false mark 0 h in q ∙ if-ne mark 0 _ _ k ∙ told k)
+
+  pub mark-next : c .last ≡ false → r ≡ 0 → firstEditable im (componentsFrom im (left - 1) (c .next)) ≡ all
+  mark-next b y =
+      by-test (mark =? 0)
+      (λ h. let z = eqb-true mark 0 h in
+      by-test (c .editable) (λ a. let o : colon ≡ 0 = sym (q ∙ if-eq mark 0 _ _ z ∙ if-true _ _ a) ∙ y in absurd (omega arith))
+      (λ a. editable-next im left p c l e a b ∙ before z))
+      (λ h. absurd (eqb-false mark 0 h (sym (q ∙ if-ne mark 0 _ _ (eqb-false mark 0 h)) ∙ y)))
+
+-- of the line that the cursor stands on
+pub mark-turn : (im : List ℕ) (l : Level) (k p mark other r : ℕ) → p ≡ lineAt im (l .table .0) k → r ≡ (if k =? l .cursor then mark else other)
+    → ((mark ≡ 0 → ⊥) → mark ≡ markOf (firstEditable im (componentsOf im p))) → ((other ≡ 0 → ⊥) → other ≡ editMark im l) → (r ≡ 0 → ⊥) → r ≡ editMark im l
+unfolding editMark
+mark-turn im l k p mark other r e q f g n =
+    by-test (k =? l .cursor)
+    (λ h. let o : r ≡ mark = q ∙ if-true _ _ h in
+    let z : p ≡ cursorLine im l = e ∙ ap (λ (i : ℕ). lineAt im (l .table .0) i) (eqb-true k (l .cursor) h) in
+    o ∙ f (λ y. n (o ∙ y)) ∙ ap (λ (i : ℕ). markOf (firstEditable im (componentsOf im i))) z)
+    (λ h. let o : r ≡ other = q ∙ if-false _ _ h in o ∙ g (λ y. n (o ∙ y)))
+
+pub line-marked : (im : List ℕ) (p mark : ℕ) (h : Head) → h ≡ headAt im p
+    → ((mark ≡ 0 → ⊥) → mark ≡ markOf (firstEditable im (componentsFrom im (length im + 1) (h .component)))) → (mark ≡ 0 → ⊥)
+    → mark ≡ markOf (firstEditable im (componentsOf im p))
+unfolding componentsOf
+line-marked im p mark h e f n = f n ∙ rw e

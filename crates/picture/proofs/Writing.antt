@@ -1,16 +1,16 @@
 -- Texts put one behind the other into a row: what a row drops of the first it would drop of the join, so cutting can wait to the end.
-use Prim.Native.Nat.{ℕ, zero, suc, _+_, _-_, _≤_, _<_}
-use mathlib.Core.Path.{_≡_, refl, sym, ap, _∙_}
-use mathlib.Core.Bool.{Bool, true}
+use Prim.Native.Nat.{ℕ, zero, suc, _+_, _-_, _≤_, _<_, min}
+use mathlib.Core.Path.{_≡_, sym, ap, _∙_}
+use mathlib.Core.Bool.{true}
 use mathlib.Core.List.{List, [], _∷_, _++_, append-assoc, append-nil}
 use native.Mathlib.Omega.{arith}
 use lib.ListN.{length, take, drop, set, getD, replicate, length-append, length-take, drop-of-length-le}
-use lib.Seq.{take-suc-set, take-all, take-take, take-append-le, drop-cons, getD-take}
+use lib.Seq.{take-suc, take-suc-set, take-all, take-take, take-append-le, take-append-add, drop-cons, getD-take}
 use borrow.Author.Tests.{leb-true, leb-false, le-leb, lt-leb}
 use Rattle.laws.proofs.Cases.{by-test}
 use Rattle.laws.specs.Choice.{_≤?_}
 use Rattle.laws.specs.Overwrite.{fit, over}
-use Rattle.laws.proofs.Overwriting.{take-fit, fit-cut, fit-pad, take-join, over-cons, over-nil}
+use Rattle.laws.proofs.Overwriting.{take-fit, fit-cut, fit-pad, take-join, over-cons, over-nil, over-out}
 use Rattle.session.specs.Fits.{mostColumns}
 use Rattle.picture.specs.Row.{rowText, kept, Behind}
 use Rattle.picture.specs.Texts.{blank}
@@ -87,19 +87,38 @@ full-by-length r h =
     (λ e. e ∙ sym (le-leb mostColumns (length (take (r .len) (r .cells))) (omega (arith, leb-true mostColumns (r .len) e, length-take (r .len) (r .cells)))))
     (λ e. e ∙ sym (lt-leb mostColumns (length (take (r .len) (r .cells))) (omega (arith, leb-false mostColumns (r .len) e, length-take (r .len) (r .cells)))))
 
+-- a full row drops what is left of a text
+pub full-now : (r : Row) (t : List ℕ) → length (r .cells) ≡ mostColumns → mostColumns ≤ r .len → rowText r ≡ kept (rowText r ++ t)
+full-now r t l h = full-row (rowText r) t (length-row r l) (sym (full-by-length r l) ∙ le-leb mostColumns (r .len) h)
+
 -- ---- loops that put cells
 
 pub short : {x s y : List ℕ} → Behind x s y → length y ≤ mostColumns
 short {x = x} {s = s} e = rw (e .is) (kept-length (x ++ s))
 
--- the next byte of a text
-pub text-turn : {x y : List ℕ} (t : List ℕ) (i b : ℕ) → i < length t → b ≡ getD t i 0 → Behind x (b ∷ []) y → kept (y ++ drop (i + 1) t) ≡ kept (x ++ drop i t)
-text-turn t i b h f e =
-    let a : i + 1 ≡ suc i = omega arith in
-    rw (a, drop-cons t i 0 h, ← f) (push-turn (drop (suc i) t) b e)
+-- the next byte of a text, copied behind the n cells of a row
+pub copy-turn : (s t a : List ℕ) (n i b : ℕ) → n + i < length s → i < length t → b ≡ getD t i 0 → take (n + i) s ≡ a ++ take i t
+    → take (n + (i + 1)) (set s (n + i) b) ≡ a ++ take (i + 1) t
+copy-turn s t a n i b p q e h =
+    let u : n + (i + 1) ≡ suc (n + i) = omega arith in
+    let v : i + 1 ≡ suc i = omega arith in
+    rw (u, v, take-suc-set s (n + i) b p, take-suc t i 0 q, h, e, append-assoc)
 
-pub text-done : (x t : List ℕ) (i : ℕ) → length x ≤ mostColumns → length t ≤ i → x ≡ kept (x ++ drop i t)
-text-done x t i l h = rw (drop-of-length-le t {i = i} h) (row-done x l)
+-- as many bytes of it as there is room for
+pub copy-done : (s t z : List ℕ) (n count : ℕ) → length s ≡ mostColumns → n < mostColumns → count ≡ min (length t) (mostColumns - n)
+    → take (n + count) z ≡ take n s ++ take count t → Behind (take n s) t (take (n + count) z)
+unfolding kept
+copy-done s t z n count l h c e =
+    let w : mostColumns ≡ length (take n s) + (mostColumns - n) = omega (arith, length-take n s) in
+    record {
+      is = e ∙ sym (ap (λ (k : ℕ). take k (take n s ++ t)) w ∙ take-append-add (take n s) t (mostColumns - n) ∙ ap (λ (r : List ℕ). take n s ++ r) all);
+    }
+  where
+    all : take (mostColumns - n) t ≡ take count t
+    all =
+        by-test (length t ≤? (mostColumns - n))
+        (λ q. let p = leb-true (length t) (mostColumns - n) q in take-all (mostColumns - n) t p ∙ sym (take-all count t (omega arith)))
+        (λ q. let p = leb-false (length t) (mostColumns - n) q in let o : mostColumns - n ≡ count = omega arith in rw o)
 
 -- the same byte once more
 pub repeat-turn : {x y : List ℕ} (left b : ℕ) → 0 < left → Behind x (b ∷ []) y → kept (y ++ replicate (left - 1) b) ≡ kept (x ++ replicate left b)
@@ -145,20 +164,23 @@ fit-more r n y l h g =
 -- ---- a row written over the picture
 
 -- the cell at i of the row, which is the next to be written
-pub put-turn : (d : List ℕ) (r : Row) (at k x : ℕ) → at ≤ k → k < length d → length (r .cells) ≡ mostColumns → k - at < r .len → k - at < mostColumns
-    → x ≡ getD (r .cells) (k - at) 0
-    → over (set d k x) (k + 1) (drop (k + 1 - at) (rowText r)) ≡ over d k (drop (k - at) (rowText r))
+pub put-turn : (d : List ℕ) (r : Row) (at i x : ℕ) → at + i < length d → length (r .cells) ≡ mostColumns → i < r .len → i < mostColumns → x ≡ getD (r .cells) i 0
+    → over (set d (at + i) x) (at + (i + 1)) (drop (i + 1) (rowText r)) ≡ over d (at + i) (drop i (rowText r))
 unfolding rowText
-put-turn d r at k x p q l a b e =
-    let u : k + 1 ≡ suc k = omega arith in
-    let v : k + 1 - at ≡ suc (k - at) = omega arith in
-    let h : k - at < length (take (r .len) (r .cells)) = omega (arith, length-take (r .len) (r .cells)) in
-    rw (v, u, over-cons d k x (drop (suc (k - at)) (take (r .len) (r .cells))) q, drop-cons (take (r .len) (r .cells)) (k - at) 0 h, getD-take (r .len) (r .cells) (k - at) 0 a, e)
+put-turn d r at i x q l a b e =
+    let u : at + (i + 1) ≡ suc (at + i) = omega arith in
+    let v : i + 1 ≡ suc i = omega arith in
+    let h : i < length (take (r .len) (r .cells)) = omega (arith, length-take (r .len) (r .cells)) in
+    rw (u, v, over-cons d (at + i) x (drop (suc i) (take (r .len) (r .cells))) q, drop-cons (take (r .len) (r .cells)) i 0 h, getD-take (r .len) (r .cells) i 0 a, e)
 
--- nothing of the row is left
-pub put-done : (d : List ℕ) (r : Row) (i k : ℕ) → length (rowText r) ≤ i → over d k (drop i (rowText r)) ≡ d
-put-done d r i k h = rw (drop-of-length-le (rowText r) {i = i} h) (over-nil d k)
-
-pub short-by-length : (r : Row) (i : ℕ) → r .len ≤ i → length (rowText r) ≤ i
+short-by-length : (r : Row) (i : ℕ) → length (r .cells) ≡ mostColumns → min (r .len) mostColumns ≤ i → length (rowText r) ≤ i
 unfolding rowText
-short-by-length r i h = omega (arith, length-take (r .len) (r .cells))
+short-by-length r i l h = omega (arith, length-take (r .len) (r .cells))
+
+-- nothing of the row is left, or nothing of the picture
+pub put-done : (d : List ℕ) (r : Row) (at i cells count : ℕ) → length (r .cells) ≡ mostColumns → cells ≡ min (r .len) mostColumns → count ≡ min cells (length d - at) → count ≤ i
+    → over d (at + i) (drop i (rowText r)) ≡ d
+put-done d r at i cells count l e f h =
+    by-test (length d ≤? at + i) (λ q. over-out d (at + i) _ (leb-true (length d) (at + i) q))
+    (λ q. let p = leb-false (length d) (at + i) q in
+    rw (drop-of-length-le (rowText r) {i = i} (short-by-length r i l (omega arith))) (over-nil d (at + i)))

@@ -1,53 +1,179 @@
 // The whole picture: row 0, and the rows of lines below it.
 ghost use mathlib.Core.Path.{_≡_};
 ghost use mathlib.Core.Bool.{true};
-ghost use Prim.Native.Nat.{_*_, _≤_};
+ghost use Prim.Native.Nat.{_+_, _-_, _*_, _<_, _≤_, min};
 ghost use lib.ListN.{length};
+ghost use Rattle.laws.specs.Choice.{if_then_else_, _=?_, _<?_, _≤?_};
 ghost use Rattle.laws.specs.Overwrite.{over};
-ghost use Rattle.session.specs.Fits.{mostColumns, shapeFits};
-ghost use Rattle.picture.specs.Row.{rowText};
-ghost use Rattle.picture.specs.Rows.{rowAt, rowsBelow, pictureOf, filled};
+ghost use Rattle.cmf.specs.Limits.{mostLinesOfTable};
+ghost use Rattle.cmf.specs.Readers.{headAt};
+ghost use Rattle.cmf.specs.Places.{componentsOf, lineAt, lineCount};
+ghost use Rattle.session.specs.Browsing.{firstEditable};
+ghost use Rattle.picture.specs.Texts.{star, colon};
+ghost use Rattle.session.specs.Fits.{mostColumns, shapeFits, cursorLine};
+ghost use Rattle.picture.specs.Rows.{editMark, moreMark, rowAt, rowsBelow, pictureOf, filled};
 use crate::line::line_row;
 use crate::row::Row;
-use crate::title::top_row;
+use crate::title::put_top;
+use cmf::head::Head;
 use cmf::head::read_head;
+use cmf::image::Image;
 use cmf::place::line_at;
 use cmf::place::line_count;
+use session::fits::reach;
 use session::fits::shape_fits;
+use session::session::Level;
 use session::session::Session;
 
-// The row of line k of a table of count lines; the line stands at p.
-fn row_at(image: &[u8], sheet: &[u8], session: Session, count: usize, k: usize, p: usize) -> Row
-    requires { ⌜ (2 ≤ session .columns) × (session .columns ≤ mostColumns) ⌝ }
-    ensures { λ r. ⌜ rowText r ≡ rowAt (now (image .entry)) (now (sheet .entry)) session count k p ⌝ }
-{
-    if k < count {
-        return line_row(image, sheet, session, k, p);
-    }
-    Row::new().fit(session.columns as usize)
+// What is known of the shown table: how many lines it has, as far as they are looked at, where one of them stands, and its mark in row 0, or 0.
+struct Known {
+    count: usize,
+    place: usize,
+    mark: u8,
 }
 
-// Writes the rows below row 0.
-fn put_rows(image: &[u8], sheet: &[u8], session: Session, picture: &mut [u8])
+// The lines up to line k, from 0, and its place.
+fn known_to(image: &[u8], table: usize, k: usize) -> Known
+    requires { ⌜ k < 256 ⌝ }
+    ensures { λ r. ⌜ (r .count ≡ min (k + 1) (lineCount (now (image .entry)) table)) × (r .place ≡ lineAt (now (image .entry)) table k) ⌝ }
+{
+    let line = reach(image, table, k);
+    if line.there {
+        return Known {
+            count: k + 1,
+            place: line.place,
+            mark: 0,
+        };
+    }
+    Known {
+        count: line_count(image, table),
+        place: line_at(image, table, k),
+        mark: 0,
+    }
+}
+
+// Of so many lines up to line k, which is the last or not, those up to the one behind it.
+fn known_next(count: usize, k: usize, last: bool) -> usize
+    ensures { λ r. ⌜ r ≡ if count ≤? k then count else if last then count else if mostLinesOfTable <? count then count else count + 1 ⌝ }
+{
+    if count <= k {
+        return count;
+    }
+    if last {
+        return count;
+    }
+    if Image::MAX_TABLE_LINES < count {
+        return count;
+    }
+    count + 1
+}
+
+// The place of line k where the cursor stands on it.
+fn chosen(k: usize, cursor: u8, place: usize, other: usize) -> usize
+    ensures { λ r. ⌜ r ≡ if k =? cursor then place else other ⌝ }
+{
+    if k == cursor as usize { place } else { other }
+}
+
+// Its mark.
+fn chosen_mark(k: usize, cursor: u8, mark: u8, other: u8) -> u8
+    ensures { λ r. ⌜ r ≡ if k =? cursor then mark else other ⌝ }
+{
+    if k == cursor as usize { mark } else { other }
+}
+
+// What row 0 asks, by the lines up to line k: how many there are, and the place of the cursor line, which is looked for where no row shows it.
+fn asked(image: &[u8], here: Level, lines: u8, k: usize, known: Known) -> Known
+    requires { ⌜ (lines - 1 ≤ k) × (known .count ≡ min (k + 1) (lineCount (now image) (here .table .0))) × (here .first ≤ here .cursor → here .cursor < k → known .place ≡ cursorLine (now image) here) × ((known .mark ≡ 0 → ⊥) → known .mark ≡ editMark (now image) here) ⌝ }
+    ensures { λ r. ⌜ (moreMark (r .count) (lines - 1) (here .cursor) ≡ moreMark (lineCount (now (image .entry)) (here .table .0)) (lines - 1) (here .cursor)) × (r .place ≡ cursorLine (now (image .entry)) here) × ((r .mark ≡ 0 → ⊥) → r .mark ≡ editMark (now (image .entry)) here) ⌝ }
+{
+    if here.first <= here.cursor {
+        if (here.cursor as usize) < k {
+            return known;
+        }
+    }
+    Known {
+        count: line_count(image, here.table.0),
+        place: here.cursor_line(image),
+        mark: known.mark,
+    }
+}
+
+// Writes the row of line k of a table of count lines, and answers its mark in row 0, or 0; the line stands at p, and its head is given.
+fn put_row(
+    image: &[u8],
+    sheet: &[u8],
+    session: Session,
+    cells: &[u32],
+    count: usize,
+    k: usize,
+    p: usize,
+    h: Head,
+    picture: &mut [u8],
+    at: usize,
+) -> u8
+    requires { ⌜ (2 ≤ session .columns) × (session .columns ≤ mostColumns) × (now cells ≡ session .work .cells) × (h ≡ headAt (now image) p) ⌝ }
+    ensures { λ r. ⌜ ((r ≡ 0 → ⊥) → r ≡ if firstEditable (now (image .entry)) (componentsOf (now (image .entry)) p) .found then colon else star) ⌝ }
+    ensures { λ _. ⌜ now (picture .exit) ≡ over (now (picture .entry)) at (rowAt (now (image .entry)) (now (sheet .entry)) session count k p) ⌝ }
+{
+    if k < count {
+        let line = line_row(image, sheet, session, cells, k, p, h);
+        line.row.put(&mut *picture, at);
+        return line.mark;
+    }
+    Row::new()
+        .fit(session.columns as usize)
+        .put(&mut *picture, at);
+    0
+}
+
+// Writes the rows below row 0, and answers what row 0 asks.
+fn put_rows(image: &[u8], sheet: &[u8], session: Session, picture: &mut [u8]) -> Known
     requires { ⌜ (2 ≤ session .columns) × (session .columns ≤ mostColumns) ⌝ }
+    ensures { λ r. ⌜ (moreMark (r .count) (session .lines - 1) (session .here .cursor) ≡ moreMark (lineCount (now (image .entry)) (session .here .table .0)) (session .lines - 1) (session .here .cursor)) × (r .place ≡ cursorLine (now (image .entry)) (session .here)) × ((r .mark ≡ 0 → ⊥) → r .mark ≡ editMark (now (image .entry)) (session .here)) ⌝ }
     ensures { λ _. ⌜ now (picture .exit) ≡ over (now (picture .entry)) (session .columns) (rowsBelow (now (image .entry)) (now (sheet .entry)) session) ⌝ }
 {
     let columns = session.columns as usize;
-    let table = session.here.table.0;
-    let count = line_count(image, table);
-    let mut k = session.here.first as usize;
-    let mut p = line_at(image, table, k);
+    let here = session.here;
+    let table = here.table.0;
+    let work = session.work;
+    let cells = work.cells;
+    let mut k = here.first as usize;
+    let top = known_to(image, table, k);
+    let mut p = top.place;
+    let mut count = top.count;
+    let mut cursor = 0;
+    let mut marked = 0;
     let mut left = session.lines;
     let mut at = columns;
     while 1 < left {
-        let row = row_at(image, sheet, session, count, k, p);
-        row.put(&mut *picture, at);
+        let h = read_head(image, p);
+        let mark = put_row(
+            image,
+            sheet,
+            session,
+            &cells,
+            count,
+            k,
+            p,
+            h,
+            &mut *picture,
+            at,
+        );
+        cursor = chosen(k, here.cursor, p, cursor);
+        marked = chosen_mark(k, here.cursor, mark, marked);
+        count = known_next(count, k, h.last);
         at = at + columns;
         k = k + 1;
-        let h = read_head(image, p);
         p = h.next;
         left = left - 1;
     }
+    let known = Known {
+        count,
+        place: cursor,
+        mark: marked,
+    };
+    asked(image, here, session.lines, k, known)
 }
 
 // Writes the picture of a display of a legal shape into as many bytes as it has cells.
@@ -55,8 +181,15 @@ fn write_picture(image: &[u8], sheet: &[u8], session: Session, picture: &mut [u8
     requires { ⌜ (shapeFits (session .columns) (session .lines) ≡ true) × (length (now picture) ≡ session .columns * session .lines) ⌝ }
     ensures { λ _. ⌜ now (picture .exit) ≡ pictureOf (now (image .entry)) (now (sheet .entry)) session ⌝ }
 {
-    top_row(image, session).put(&mut *picture, 0);
-    put_rows(image, sheet, session, &mut *picture);
+    let known = put_rows(image, sheet, session, &mut *picture);
+    put_top(
+        image,
+        session,
+        known.count,
+        known.place,
+        known.mark,
+        &mut *picture,
+    );
 }
 
 // Writes the picture; nothing, where no display has the session's shape or the picture has another number of bytes.

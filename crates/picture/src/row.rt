@@ -1,6 +1,7 @@
 // A row of the display while it is written, by value: texts are put one behind the other, and what does not fit is dropped.
 ghost use mathlib.Core.Path.{_≡_};
 ghost use mathlib.Core.List.{[], _∷_, _++_};
+ghost use Prim.Native.Nat.{min};
 ghost use lib.ListN.{length, replicate};
 ghost use Rattle.laws.specs.Choice.{_≤?_};
 ghost use Rattle.laws.specs.Overwrite.{fit, over};
@@ -18,8 +19,16 @@ pub struct Row {
     pub len: usize,
 }
 
+fn smaller(a: usize, b: usize) -> usize
+    ensures { λ r. ⌜ r ≡ min a b ⌝ }
+{
+    if a < b { a } else { b }
+}
+
 impl Row {
     pub const BLANK: u8 = 0x20;
+
+    pub(crate) const CELLS: usize = CELLS;
 
     pub fn new() -> Self
         ensures { λ r. ⌜ rowText r ≡ [] ⌝ }
@@ -48,34 +57,37 @@ impl Row {
         self
     }
 
-    pub fn push_all(self, text: &[u8]) -> Self
+    pub fn push_all(mut self, text: &[u8]) -> Self
         ensures { λ r. ⌜ Behind (rowText self) (now (text .entry)) (rowText r) ⌝ }
     {
-        let mut row = self;
+        let n = self.len;
+        if CELLS <= n {
+            return self;
+        }
+        let count = smaller(text.len(), CELLS - n);
         let mut i = 0;
-        while i < text.len() {
-            if row.is_full() {
-                return row;
-            }
-            row = row.push(text[i]);
+        while i < count {
+            self.cells[n + i] = text[i];
             i = i + 1;
         }
-        row
+        self.len = n + count;
+        self
     }
 
-    pub fn repeat(self, byte: u8, count: usize) -> Self
+    pub fn repeat(mut self, byte: u8, count: usize) -> Self
         ensures { λ r. ⌜ Behind (rowText self) (replicate count byte) (rowText r) ⌝ }
     {
-        let mut row = self;
         let mut left = count;
         while 0 < left {
-            if row.is_full() {
-                return row;
+            let n = self.len;
+            if CELLS <= n {
+                return self;
             }
-            row = row.push(byte);
+            self.cells[n] = byte;
+            self.len = n + 1;
             left = left - 1;
         }
-        row
+        self
     }
 
     // Cut or padded to so many cells.
@@ -93,17 +105,14 @@ impl Row {
     pub fn put(self, picture: &mut [u8], at: usize)
         ensures { λ _. ⌜ now (picture .exit) ≡ over (now (picture .entry)) at (rowText self) ⌝ }
     {
-        let mut k = at;
-        while k < picture.len() {
-            let i = k - at;
-            if self.len <= i {
-                return;
-            }
-            if CELLS <= i {
-                return;
-            }
-            picture[k] = self.cells[i];
-            k = k + 1;
+        if picture.len() <= at {
+            return;
+        }
+        let count = smaller(smaller(self.len, CELLS), picture.len() - at);
+        let mut i = 0;
+        while i < count {
+            picture[at + i] = self.cells[i];
+            i = i + 1;
         }
     }
 }

@@ -2,6 +2,7 @@
 ghost use mathlib.Core.Path.{_≡_};
 ghost use mathlib.Core.List.{[], _∷_, _++_};
 ghost use Prim.Native.Nat.{_-_};
+ghost use lib.ListN.{getD};
 ghost use Rattle.picture.specs.Row.{rowText, Behind};
 ghost use Rattle.picture.specs.Texts.{digitChar, signChar, digitCells, numeralText, decimal, plain, countText, alignedRight, paddedRight, timeText, yearCells, dateText, triggerText, cellsText, widthOf, fieldText, visiting, componentText};
 ghost use Rattle.cmf.specs.Readers.{textBytes, itemPlace};
@@ -75,29 +76,41 @@ pub fn width_of(kind: Kind) -> usize
     }
 }
 
+// A cell, 0 past the last.
+fn cell_at(cells: &[u32], i: usize) -> u64
+    ensures { λ r. ⌜ r ≡ getD (now (cells .entry)) i 0 ⌝ }
+{
+    if i < cells.len() { cells[i] as u64 } else { 0 }
+}
+
 impl Row {
     // The digits in count cells from one on.
-    fn digits(self, work: Work, from: u8, count: u8) -> Self
-        ensures { λ r. ⌜ Behind (rowText self) (digitCells (work .cells) from count) (rowText r) ⌝ }
+    fn digits(mut self, cells: &[u32], from: u8, count: u8) -> Self
+        ensures { λ r. ⌜ Behind (rowText self) (digitCells (now (cells .entry)) from count) (rowText r) ⌝ }
     {
-        let mut row = self;
         let mut at = from as usize;
         let mut left = count;
         while 0 < left {
-            row = row.push(digit_char(work.cell(at)));
+            let n = self.len;
+            if Row::CELLS <= n {
+                return self;
+            }
+            self.cells[n] = digit_char(cell_at(cells, at));
+            self.len = n + 1;
             at = at + 1;
             left = left - 1;
         }
-        row
+        self
     }
 
-    fn numeral(self, n: Numeral, work: Work) -> Self
-        ensures { λ r. ⌜ Behind (rowText self) (numeralText n (work .cells)) (rowText r) ⌝ }
+    fn numeral(self, n: Numeral, cells: &[u32]) -> Self
+        ensures { λ r. ⌜ Behind (rowText self) (numeralText n (now (cells .entry))) (rowText r) ⌝ }
     {
         if n.signs == 0 {
-            return self.digits(work, 0, n.digits);
+            return self.digits(cells, 0, n.digits);
         }
-        self.push(sign_char(work.cell(0))).digits(work, 1, n.digits)
+        self.push(sign_char(cell_at(cells, 0)))
+            .digits(cells, 1, n.digits)
     }
 
     // The count lowest digits of a number.
@@ -128,25 +141,25 @@ impl Row {
             .decimal(n, size)
     }
 
-    fn time(self, long: bool, work: Work) -> Self
-        ensures { λ r. ⌜ Behind (rowText self) (timeText long (work .cells)) (rowText r) ⌝ }
+    fn time(self, long: bool, cells: &[u32]) -> Self
+        ensures { λ r. ⌜ Behind (rowText self) (timeText long (now (cells .entry))) (rowText r) ⌝ }
     {
-        let row = self.decimal(2, work.cell(0))
+        let row = self.decimal(2, cell_at(cells, 0))
             .push(b':')
-            .decimal(2, work.cell(1));
+            .decimal(2, cell_at(cells, 1));
         if long {
-            return row.push(b':').decimal(2, work.cell(2));
+            return row.push(b':').decimal(2, cell_at(cells, 2));
         }
         row
     }
 
-    fn date(self, long: bool, work: Work) -> Self
-        ensures { λ r. ⌜ Behind (rowText self) (dateText long (work .cells)) (rowText r) ⌝ }
+    fn date(self, long: bool, cells: &[u32]) -> Self
+        ensures { λ r. ⌜ Behind (rowText self) (dateText long (now (cells .entry))) (rowText r) ⌝ }
     {
-        let row = self.decimal(year_cells(long), work.cell(0)).push(b'-');
-        row.decimal(2, work.cell(1))
+        let row = self.decimal(year_cells(long), cell_at(cells, 0)).push(b'-');
+        row.decimal(2, cell_at(cells, 1))
             .push(b'-')
-            .decimal(2, work.cell(2))
+            .decimal(2, cell_at(cells, 2))
     }
 
     // An item of the option at a place, padded right.
@@ -166,16 +179,21 @@ impl Row {
     }
 
     // What the cells of a visit show at the component at a place.
-    fn cells(self, image: &[u8], place: usize, kind: Kind, work: Work) -> Self
-        ensures { λ r. ⌜ Behind (rowText self) (cellsText (now (image .entry)) place kind (work .cells)) (rowText r) ⌝ }
+    fn cells(self, image: &[u8], place: usize, kind: Kind, cells: &[u32]) -> Self
+        ensures { λ r. ⌜ Behind (rowText self) (cellsText (now (image .entry)) place kind (now (cells .entry))) (rowText r) ⌝ }
     {
         match kind {
-            Kind::Integer(f) => self.numeral(f.numeral(), work),
-            Kind::Counter(s) => self.counter(s.width, work.cell(0)),
-            Kind::Time(long) => self.time(long, work),
-            Kind::Date(long) => self.date(long, work),
-            Kind::Switch(n) => self.numeral(Numeral::of_bits(n), work),
-            Kind::Option { items: _, longest } => self.item(image, place, work.cell(0), longest),
+            Kind::Integer(f) => self.numeral(f.numeral(), cells),
+            Kind::Counter(s) => self.counter(s.width, cell_at(cells, 0)),
+            Kind::Time(long) => self.time(long, cells),
+            Kind::Date(long) => self.date(long, cells),
+            Kind::Switch(n) => self.numeral(Numeral::of_bits(n), cells),
+            Kind::Option { items: _, longest } => self.item(
+                image,
+                place,
+                cell_at(cells, 0),
+                longest,
+            ),
             Kind::Trigger => self.trigger(),
         }
     }
@@ -188,9 +206,37 @@ impl Row {
         let x = load(sheet, field.sheet, profile_of(kind).bytes).number();
         let fits = in_range(kind, x);
         if fits {
-            return self.cells(image, place, kind, Work::showing(kind, x));
+            let shown = Work::showing(kind, x);
+            let cells = shown.cells;
+            return self.cells(image, place, kind, &cells);
         }
         self.repeat(b'#', width_of(kind))
+    }
+
+    // What the component at a place shows; the cells are those of the working copy.
+    pub(crate) fn shown(
+        self,
+        image: &[u8],
+        sheet: &[u8],
+        session: Session,
+        cells: &[u32],
+        c: Component,
+        place: usize,
+    ) -> Self
+        requires { ⌜ now cells ≡ session .work .cells ⌝ }
+        ensures { λ r. ⌜ Behind (rowText self) (componentText (now (image .entry)) (now (sheet .entry)) session place c) (rowText r) ⌝ }
+    {
+        let field = c.field;
+        let kind = field.kind;
+        let mode = session.mode;
+        if c.holds {
+            let open = visits(mode, place);
+            if open {
+                return self.cells(image, place, kind, cells);
+            }
+            return self.field(image, sheet, place, field);
+        }
+        self.push_all(string_bytes(image, place))
     }
 
     // What the component at a place shows.
@@ -204,17 +250,9 @@ impl Row {
     ) -> Self
         ensures { λ r. ⌜ Behind (rowText self) (componentText (now (image .entry)) (now (sheet .entry)) session place c) (rowText r) ⌝ }
     {
-        let field = c.field;
-        let kind = field.kind;
-        let mode = session.mode;
-        if c.holds {
-            let open = visits(mode, place);
-            if open {
-                return self.cells(image, place, kind, session.work);
-            }
-            return self.field(image, sheet, place, field);
-        }
-        self.push_all(string_bytes(image, place))
+        let work = session.work;
+        let cells = work.cells;
+        self.shown(image, sheet, session, &cells, c, place)
     }
 }
 

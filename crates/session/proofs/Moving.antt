@@ -6,7 +6,7 @@ use mathlib.Core.List.{List, [], _∷_}
 use native.Mathlib.Omega.{arith}
 use lib.ListN.{length, getD, set}
 use Rattle.laws.specs.Choice.{if_then_else_, _=?_, _<?_}
-use Rattle.laws.proofs.Cases.{if-ind, if-true, if-false, if-eq, if-ne, if-lt, if-ge}
+use Rattle.laws.proofs.Cases.{if-ind, if-true, if-false, if-eq, if-ne}
 use Rattle.field.specs.Sheet.{begun}
 use Rattle.field.specs.declared.work.Work.{Work}
 use Rattle.cmf.specs.Readers.{headAt, componentAt}
@@ -36,14 +36,13 @@ lines-few im t = lines-up-to im 100 _
 -- ---- the keys
 
 module _ (im : List ℕ) (s : Session) where
-  pub down-goes : (count : ℕ) (r : Stepped) → count ≡ lineCount im (s .here .table .0) → s .here .cursor + 1 < count
-      → r ≡ taken (cursorOn s (s .here .cursor + 1)) → r ≡ downStep im s
+  pub down-goes : (r : Stepped) → (s .here .cursor + 1 <? lineCount im (s .here .table .0)) ≡ true → r ≡ taken (cursorOn s (s .here .cursor + 1)) → r ≡ downStep im s
   unfolding downStep
-  down-goes count r e h f = f ∙ sym (if-lt (s .here .cursor + 1) (lineCount im (s .here .table .0)) _ _ (omega (arith, e)))
+  down-goes r h f = f ∙ sym (if-true _ _ h)
 
-  pub down-stops : (count : ℕ) (r : Stepped) → count ≡ lineCount im (s .here .table .0) → count ≤ s .here .cursor + 1 → r ≡ flash s → r ≡ downStep im s
+  pub down-stops : (r : Stepped) → (s .here .cursor + 1 <? lineCount im (s .here .table .0)) ≡ false → r ≡ flash s → r ≡ downStep im s
   unfolding downStep
-  down-stops count r e h f = f ∙ sym (if-ge (s .here .cursor + 1) (lineCount im (s .here .table .0)) _ _ (omega (arith, e)))
+  down-stops r h f = f ∙ sym (if-false _ _ h)
 
   module _ (h : Head) (e : h ≡ cursorHead im (s .here)) (r : Stepped) where
     pub right-asks : h .submenu ≡ true → h .protected ≡ true → r ≡ taken (entering s 0 (s .typed)) → r ≡ rightStep im s

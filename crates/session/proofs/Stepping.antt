@@ -6,16 +6,16 @@ use mathlib.Core.List.{List, [], _∷_}
 use native.Mathlib.Omega.{arith}
 use lib.ListN.{length, getD, take, drop, length-take, drop-of-length-le}
 use lib.Seq.{drop-cons, getD-take}
-use borrow.Author.Tests.{le-leb, lt-leb, lt-ltb, eq-eqb}
+use borrow.Author.Tests.{le-leb, lt-leb, lt-ltb, le-ltb, eq-eqb, ne-eqb}
 use native.Mathlib.Decide.{ℕ-discrete}
 use Rattle.laws.specs.Choice.{if_then_else_, _and_, _≤?_, _<?_}
-use Rattle.laws.proofs.Cases.{if-eq, if-ne, if-true, if-false, and-true, and-false, and-i}
-use Rattle.cmf.specs.Readers.{componentAt}
+use Rattle.laws.proofs.Cases.{if-eq, if-ne, if-true, if-false, and-true, and-false, and-i, and-second}
+use Rattle.cmf.specs.Readers.{headAt, componentAt}
 use Rattle.cmf.specs.Places.{componentsFrom, lineCount}
 use Rattle.cmf.specs.declared.component.Component.{Component}
 use Rattle.cmf.specs.declared.head.Head.{Head}
 use Rattle.session.specs.Session.{noLevel}
-use Rattle.session.specs.Fits.{levelFits, levelsFit, cursorHead, among, digitsTo}
+use Rattle.session.specs.Fits.{levelFits, levelsFit, cursorLine, cursorHead, among, digitsTo}
 use Rattle.session.specs.declared.session.Level.{Level}
 
 pub and-none : (t : Bool) → t and false ≡ false
@@ -25,13 +25,28 @@ and-none false = refl
 
 -- ---- levels
 
--- where table and cursor line are right and the first shown line is not below the cursor, the last clause decides
-pub level-within : (im : List ℕ) (lines t : ℕ) (l : Level) (count shown : ℕ) → l .table .0 ≡ t → count ≡ lineCount im t → shown ≡ lines - 1
-    → l .cursor < count → l .first ≤ l .cursor → (l .cursor <? l .first + shown) ≡ levelFits im lines t l
-unfolding levelFits
-level-within im lines t l count shown e n m c f =
-    rw m
-    (sym (and-true _ (eq-eqb (l .table .0) t e) ∙ and-true _ (lt-ltb (l .cursor) (lineCount im t) (rw n at c)) ∙ and-true _ (le-leb (l .first) (l .cursor) f)))
+module _ (im : List ℕ) (lines t : ℕ) (l : Level) where
+  pub level-other : (l .table .0 ≡ t → ⊥) → levelFits im lines t l ≡ false
+  unfolding levelFits
+  level-other h = and-false _ (ne-eqb (l .table .0) t h)
+
+  pub level-above : l .cursor < l .first → levelFits im lines t l ≡ false
+  unfolding levelFits
+  level-above h = rw (and-false (l .cursor <? l .first + (lines - 1)) (lt-leb (l .first) (l .cursor) h), and-none (l .cursor <? lineCount im t)) (and-none _)
+
+  module _ (shown : ℕ) (e : shown ≡ lines - 1) where
+    pub level-below : l .first + shown ≤ l .cursor → levelFits im lines t l ≡ false
+    unfolding levelFits
+    level-below h =
+        let b : (l .cursor <? l .first + (lines - 1)) ≡ false = le-ltb (l .cursor) (l .first + (lines - 1)) (omega arith) in
+        rw (b, and-none (l .first ≤? l .cursor), and-none (l .cursor <? lineCount im t)) (and-none _)
+
+    -- where the table is right and the cursor is among the lines shown, the cursor line decides
+    pub level-reached : l .table .0 ≡ t → l .first ≤ l .cursor → l .cursor < l .first + shown → (l .cursor <? lineCount im t) ≡ levelFits im lines t l
+    unfolding levelFits
+    level-reached q f h =
+        let b : (l .cursor <? l .first + (lines - 1)) ≡ true = lt-ltb (l .cursor) (l .first + (lines - 1)) (omega arith) in
+        sym (and-true _ (eq-eqb (l .table .0) t q) ∙ and-second (l .cursor <? lineCount im t) (and-i (le-leb (l .first) (l .cursor) f) b))
 
 module _ (im : List ℕ) (lines t : ℕ) (ls : List Level) (i n : ℕ) (here : Level) where
   abbrev rest : Bool
@@ -105,3 +120,8 @@ module _ (ds : List ℕ) where
       go : Dec (i ≡ n) → (i < n → digitsTo ds n ≡ false) → digitsTo ds n and (getD ds n 0 ≤? 9) ≡ false
       go (yes q) below = rw (lt-leb (getD ds n 0) 9 (rw q at d)) (and-none (digitsTo ds n))
       go (no q) below = and-false _ (below (omega arith))
+
+-- the head of a level's cursor line, read where that line stands
+pub head-there : (im : List ℕ) (l m : Level) (p : ℕ) (h : Head) → m ≡ l → p ≡ cursorLine im m → h ≡ headAt im p → h ≡ cursorHead im l
+unfolding cursorHead
+head-there im l m p h e f g = g ∙ rw (f, e)

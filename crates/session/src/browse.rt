@@ -3,13 +3,13 @@ ghost use mathlib.Core.Path.{_≡_};
 ghost use Prim.Native.Nat.{_-_, _<_};
 ghost use Rattle.session.specs.Browsing.{firstFor, cursorOn, upStep, downStep, leftStep, descended, rightStep, firstEditable, lineFromHere, visitAt, enterStep, browseStep};
 use crate::fits::less_one;
+use crate::fits::reach;
 use crate::session::Level;
 use crate::session::Mode;
 use crate::session::Session;
 use crate::step::Stepped;
 use cmf::component::read_component;
 use cmf::image::Image;
-use cmf::place::line_count;
 use field::kind::ImagePlace;
 
 // Whether there is an editable component, and the place of the first.
@@ -95,8 +95,8 @@ impl Session {
         ensures { λ r. ⌜ r ≡ downStep (now (image .entry)) self ⌝ }
     {
         let cursor = self.here.cursor;
-        let count = line_count(image, self.here.table.0);
-        if cursor as usize + 1 < count {
+        let next = reach(image, self.here.table.0, cursor as usize + 1);
+        if next.there {
             return self.cursor_on(cursor + 1).taken();
         }
         self.flash()

@@ -1,8 +1,10 @@
 // Whether a session fits an image: clause by clause as the paper lists them.
 ghost use mathlib.Core.Path.{_≡_};
+ghost use mathlib.Core.Bool.{true, false};
 ghost use Prim.Native.Nat.{_-_};
 ghost use lib.ListN.{getD};
-ghost use Rattle.cmf.specs.Places.{componentsOf};
+ghost use Rattle.laws.specs.Choice.{_<?_};
+ghost use Rattle.cmf.specs.Places.{componentsOf, lineAt, lineCount};
 ghost use Rattle.session.specs.Session.{noLevel};
 ghost use Rattle.session.specs.Fits.{shapeFits, cursorLine, cursorHead, levelFits, tablesFit, among, workFits, visitFits, digitsTo, entryFits, modeFits, sessionFits};
 use crate::session::Level;
@@ -13,7 +15,7 @@ use cmf::head::Head;
 use cmf::head::read_head;
 use cmf::image::Image;
 use cmf::place::line_at;
-use cmf::place::line_count;
+use cmf::title::read_title;
 use field::kind::ImagePlace;
 use field::kind::Kind;
 use field::table::profile_of;
@@ -46,6 +48,47 @@ pub(crate) fn less_one(lines: u8) -> usize
     (lines - 1) as usize
 }
 
+// Whether a table has a line, and where it stands; without meaning where it has none.
+pub struct Reached {
+    pub there: bool,
+    pub place: usize,
+}
+
+impl Reached {
+    fn nowhere() -> Self
+        ensures { λ r. ⌜ r .there ≡ false ⌝ }
+    {
+        Reached {
+            there: false,
+            place: 0,
+        }
+    }
+}
+
+// Line k of a table, from 0; no line behind it is looked at.
+pub fn reach(image: &[u8], table: usize, k: usize) -> Reached
+    ensures { λ r. ⌜ (r .there ≡ (k <? lineCount (now (image .entry)) table)) × (r .there ≡ true → r .place ≡ lineAt (now (image .entry)) table k) ⌝ }
+{
+    if Image::MAX_TABLE_LINES < k {
+        return Reached::nowhere();
+    }
+    let title = read_title(image, table);
+    let mut p = title.line;
+    let mut left = k;
+    while 0 < left {
+        let h = read_head(image, p);
+        if h.last {
+            return Reached::nowhere();
+        }
+        p = h.next;
+        left = left - 1;
+    }
+    Reached {
+        there: true,
+        place: p,
+    }
+}
+
 impl Level {
     // The place of the cursor line.
     pub fn cursor_line(self, image: &[u8]) -> usize
@@ -61,24 +104,23 @@ impl Level {
         read_head(image, self.cursor_line(image))
     }
 
-    // Whether it shows the table at a place.
-    fn fits(self, image: &[u8], lines: u8, table: usize) -> bool
-        ensures { λ r. ⌜ r ≡ levelFits (now (image .entry)) lines table self ⌝ }
+    // Its cursor line, where it shows the table at a place.
+    fn shown(self, image: &[u8], lines: u8, table: usize) -> Reached
+        ensures { λ r. ⌜ (r .there ≡ levelFits (now (image .entry)) lines table self) × (r .there ≡ true → r .place ≡ cursorLine (now (image .entry)) self) ⌝ }
     {
         if self.table.0 != table {
-            return false;
+            return Reached::nowhere();
         }
-        let count = line_count(image, table);
         let cursor = self.cursor as usize;
         let first = self.first as usize;
         let shown = less_one(lines);
-        if count <= cursor {
-            return false;
-        }
         if cursor < first {
-            return false;
+            return Reached::nowhere();
         }
-        cursor < first + shown
+        if first + shown <= cursor {
+            return Reached::nowhere();
+        }
+        reach(image, table, cursor)
     }
 }
 
@@ -132,35 +174,36 @@ impl Session {
         }
     }
 
-    fn tables_fit(self, image: &[u8]) -> bool
-        ensures { λ r. ⌜ r ≡ tablesFit (now (image .entry)) self ⌝ }
+    // The cursor line, where the tables fit.
+    fn shown_line(self, image: &[u8]) -> Reached
+        ensures { λ r. ⌜ (r .there ≡ tablesFit (now (image .entry)) self) × (r .there ≡ true → r .place ≡ cursorLine (now (image .entry)) (self .here)) ⌝ }
     {
         let count = self.outer as usize;
         if Image::MAX_DEPTH <= count {
-            return false;
+            return Reached::nowhere();
         }
         let mut t = Image::PROLOG;
         let mut i = 0;
         while i < count {
             let l = self.above_at(i);
-            let ok = l.fits(image, self.lines, t);
-            if !ok {
-                return false;
+            let line = l.shown(image, self.lines, t);
+            if !line.there {
+                return Reached::nowhere();
             }
-            let h = l.cursor_head(image);
+            let h = read_head(image, line.place);
             if !h.submenu {
-                return false;
+                return Reached::nowhere();
             }
             t = h.table;
             i = i + 1;
         }
-        self.here.fits(image, self.lines, t)
+        self.here.shown(image, self.lines, t)
     }
 
-    fn visit_fits(self, image: &[u8], place: usize) -> bool
+    fn visit_fits(self, image: &[u8], line: usize, place: usize) -> bool
+        requires { ⌜ line ≡ cursorLine (now image) (self .here) ⌝ }
         ensures { λ r. ⌜ r ≡ visitFits (now (image .entry)) self place ⌝ }
     {
-        let line = self.here.cursor_line(image);
         let on_line = is_on_line(image, line, place);
         if !on_line {
             return false;
@@ -193,10 +236,11 @@ impl Session {
         true
     }
 
-    fn entry_fits(self, image: &[u8], n: u8) -> bool
+    fn entry_fits(self, image: &[u8], line: usize, n: u8) -> bool
+        requires { ⌜ line ≡ cursorLine (now image) (self .here) ⌝ }
         ensures { λ r. ⌜ r ≡ entryFits (now (image .entry)) self n ⌝ }
     {
-        let h = self.here.cursor_head(image);
+        let h = read_head(image, line);
         if !h.protected {
             return false;
         }
@@ -206,14 +250,16 @@ impl Session {
         false
     }
 
-    fn mode_fits(self, image: &[u8]) -> bool
+    // The cursor line stands at a place.
+    fn mode_fits(self, image: &[u8], line: usize) -> bool
+        requires { ⌜ line ≡ cursorLine (now image) (self .here) ⌝ }
         ensures { λ r. ⌜ r ≡ modeFits (now (image .entry)) self (self .mode) ⌝ }
     {
         let mode = self.mode;
         match mode {
             Mode::Browsing => true,
-            Mode::Visit(p) => self.visit_fits(image, p.0),
-            Mode::Password(n) => self.entry_fits(image, n),
+            Mode::Visit(p) => self.visit_fits(image, line, p.0),
+            Mode::Password(n) => self.entry_fits(image, line, n),
         }
     }
 
@@ -225,10 +271,10 @@ impl Session {
         if !shape {
             return false;
         }
-        let tables = self.tables_fit(image);
-        if !tables {
+        let line = self.shown_line(image);
+        if !line.there {
             return false;
         }
-        self.mode_fits(image)
+        self.mode_fits(image, line.place)
     }
 }

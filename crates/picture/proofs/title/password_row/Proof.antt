@@ -1,11 +1,13 @@
 -- The parts of the row, one behind the other.
+use mathlib.Core.Path.{refl}
+use Rattle.session.proofs.Stepping.{head-there}
 use Rattle.picture.proofs.Lines.{password-row-is}
 use borrow.Author.Needs.{needs}
 use Rattle.picture.proofs.title.password_row.Statement.{statement}
 use Rattle.picture.proofs.title.password_row.Tie as tie
 
-cursor-head-requires : tie.Need-cursor-head-requires
-cursor-head-requires c κs = search needs
+read-head-requires : tie.Need-read-head-requires
+read-head-requires c κs = search needs
 
 byte-at-requires : tie.Need-byte-at-requires
 byte-at-requires c κs = search needs
@@ -44,13 +46,13 @@ fit-requires : tie.Need-fit-requires
 fit-requires c κs = search needs
 
 returns : tie.Need-returns
-returns c = password-row-is _ (c .before .before .before .before .before .before .before .before .before .before .before .before .before .args .session) _ (c .before .before .before .before .before .before .before .before .before .before .before .before .before .args .typed) (c .before .before .before .before .before .before .before .before .before .before .before .before .before .pre) (c .before .before .before .before .before .before .before .before .before .before .before .cursor-head .ensures) (c .before .before .before .before .before .before .before .before .before .before .byte-at .ensures) (c .before .before .before .less .ensures) (c .before .before .before .before .before .before .before .before .before .new .ensures) (c .before .before .before .before .before .before .before .before .push .ensures) (c .before .before .before .before .before .before .before .push2 .ensures) (c .before .before .before .before .before .before .push3 .ensures) (c .before .before .before .before .before .push4 .ensures) (c .before .before .before .before .repeat .ensures) (c .before .before .repeat2 .ensures) (c .fit .ensures)
+returns c = password-row-is _ (c .before .before .before .before .before .before .before .before .before .before .before .before .before .args .session) _ (c .before .before .before .before .before .before .before .before .before .before .before .before .before .args .typed) (c .before .before .before .before .before .before .before .before .before .before .before .before .before .pre .0) (head-there _ (c .before .before .before .before .before .before .before .before .before .before .before .before .before .args .session .here) _ _ (c .before .before .before .before .before .before .before .before .before .before .before .read-head .result) refl (c .before .before .before .before .before .before .before .before .before .before .before .before .before .pre .1) (c .before .before .before .before .before .before .before .before .before .before .before .read-head .ensures)) (c .before .before .before .before .before .before .before .before .before .before .byte-at .ensures) (c .before .before .before .less .ensures) (c .before .before .before .before .before .before .before .before .before .new .ensures) (c .before .before .before .before .before .before .before .before .push .ensures) (c .before .before .before .before .before .before .before .push2 .ensures) (c .before .before .before .before .before .before .push3 .ensures) (c .before .before .before .before .before .push4 .ensures) (c .before .before .before .before .repeat .ensures) (c .before .before .repeat2 .ensures) (c .fit .ensures)
 
 pub password-row-spec : {M : Type 1} → statement M
 password-row-spec =
     tie.close
     (tie.spec
-    cursor-head-requires
+    read-head-requires
     byte-at-requires
     cast-digits
     new-requires

@@ -13,9 +13,6 @@ cast-rows c = search needs
 sub-rows : tie.Need-sub-rows
 sub-rows c = search needs
 
-line-count-requires : tie.Need-line-count-requires
-line-count-requires c κs = search needs
-
 new-requires : tie.Need-new-requires
 new-requires c κs = search needs
 
@@ -47,7 +44,7 @@ push-requires-2 : tie.Need-push-requires-2
 push-requires-2 c κs = search needs
 
 returns : tie.Need-returns
-returns c = title-row-is _ (c .before .before .before .before .before .before .before .before .before .before .before .before .before .before .args .session) (c .before .before .before .before .before .before .before .before .before .before .before .before .before .before .pre .0) (c .before .before .before .before .before .before .before .before .before .before .before .before .before .before .pre .1) (c .before .before .before .before .before .before .before .before .before .line-count .ensures) (c .before .before .before .before .before .before .before .text-bytes .ensures) (c .before .before .before .before .before .before .before .before .new .ensures) (c .before .before .before .before .before .before .push-all .ensures) (c .before .before .before .before .before .fit .ensures) (c .before .before .before .before .edit-mark .ensures) (c .before .before .before .push .ensures) (c .before .before .line-number .ensures) (c .before .more-mark .ensures) (c .push2 .ensures)
+returns c = title-row-is _ (c .before .before .before .before .before .before .before .before .before .before .before .before .before .args .session) (c .before .before .before .before .before .before .before .before .before .before .before .before .before .args .count) (c .before .before .before .before .before .before .before .before .before .before .before .before .before .pre .0) (c .before .before .before .before .before .before .before .before .before .before .before .before .before .pre .1) (c .before .before .before .before .before .before .before .before .before .before .before .before .before .pre .3) (c .before .before .before .before .before .before .before .text-bytes .ensures) (c .before .before .before .before .before .before .before .before .new .ensures) (c .before .before .before .before .before .before .push-all .ensures) (c .before .before .before .before .before .fit .ensures) (c .before .before .before .before .edit-mark .ensures) (c .before .before .before .push .ensures) (c .before .before .line-number .ensures) (c .before .more-mark .ensures) (c .push2 .ensures)
 
 pub title-row-spec : {M : Type 1} → statement M
 title-row-spec =
@@ -56,7 +53,6 @@ title-row-spec =
     cast-columns
     cast-rows
     sub-rows
-    line-count-requires
     new-requires
     text-bytes-requires
     push-all-requires

@@ -16,8 +16,8 @@ numeral-requires-2 c κs = search needs
 enum-known-kind-2 : tie.Need-enum-known-kind-2
 enum-known-kind-2 c = search needs
 
-cell-requires : tie.Need-cell-requires
-cell-requires c κs = search needs
+cell-at-requires : tie.Need-cell-at-requires
+cell-at-requires c κs = search needs
 
 counter-requires : tie.Need-counter-requires
 counter-requires c κs = search needs
@@ -46,8 +46,8 @@ numeral-requires-3 c κs = search needs
 enum-known-kind-6 : tie.Need-enum-known-kind-6
 enum-known-kind-6 c = search needs
 
-cell-requires-2 : tie.Need-cell-requires-2
-cell-requires-2 c κs = search needs
+cell-at-requires-2 : tie.Need-cell-at-requires-2
+cell-at-requires-2 c κs = search needs
 
 item-requires : tie.Need-item-requires
 item-requires c κs = search needs
@@ -64,7 +64,7 @@ returns c = rw (c .before .before .before .kind .given .1, ← c .before .numera
 
 returns-2 : tie.Need-returns-2
 unfolding cellsText
-returns-2 c = rw (c .before .before .before .kind2 .given .1, ← c .before .cell .ensures .0) (c .counter .ensures)
+returns-2 c = rw (c .before .before .before .kind2 .given .1, ← c .before .cell-at .ensures) (c .counter .ensures)
 
 returns-3 : tie.Need-returns-3
 unfolding cellsText
@@ -80,7 +80,7 @@ returns-5 c = rw (c .before .before .before .kind5 .given .1, ← c .before .of-
 
 returns-6 : tie.Need-returns-6
 unfolding cellsText
-returns-6 c = rw (c .before .before .before .kind6 .given .1, ← c .before .cell2 .ensures .0) (c .item .ensures)
+returns-6 c = rw (c .before .before .before .kind6 .given .1, ← c .before .cell-at2 .ensures) (c .item .ensures)
 
 returns-7 : tie.Need-returns-7
 unfolding cellsText
@@ -94,7 +94,7 @@ cells-spec =
     numeral-requires
     numeral-requires-2
     enum-known-kind-2
-    cell-requires
+    cell-at-requires
     counter-requires
     enum-known-kind-3
     time-requires
@@ -104,7 +104,7 @@ cells-spec =
     of-bits-requires
     numeral-requires-3
     enum-known-kind-6
-    cell-requires-2
+    cell-at-requires-2
     item-requires
     enum-told
     trigger-requires

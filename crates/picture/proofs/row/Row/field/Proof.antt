@@ -19,11 +19,14 @@ in-range-requires c κs = search needs
 showing-requires : tie.Need-showing-requires
 showing-requires c κs = search needs
 
+slice-aggregate-cells : tie.Need-slice-aggregate-cells
+slice-aggregate-cells c = search needs
+
 cells-requires : tie.Need-cells-requires
 cells-requires c κs = search needs
 
 returns : tie.Need-returns
-returns c = field-in _ _ _ (c .before .before .before .before .before .before .before .before .before .args .field) _ _ _ (number-is _ (c .before .before .before .before .before .before .before .before .before .args .field) _ _ _ (c .before .before .before .before .before .before .profile-of .ensures) (c .before .before .before .before .before .load .ensures) (c .before .before .before .before .number .ensures)) (c .before .before .before .in-range .ensures) (c .before .before .if1 .taken) (c .before .showing .ensures) (c .cells .ensures)
+returns c = field-in _ _ _ (c .before .before .before .before .before .before .before .before .before .before .before .args .field) _ _ _ (number-is _ (c .before .before .before .before .before .before .before .before .before .before .before .args .field) _ _ _ (c .before .before .before .before .before .before .before .before .profile-of .ensures) (c .before .before .before .before .before .before .before .load .ensures) (c .before .before .before .before .before .before .number .ensures)) (c .before .before .before .before .before .in-range .ensures) (c .before .before .before .before .if1 .taken) (c .before .before .before .showing .ensures) (c .cells3 .ensures)
 
 width-of-requires : tie.Need-width-of-requires
 width-of-requires c κs = search needs
@@ -43,6 +46,7 @@ field-spec =
     number-requires
     in-range-requires
     showing-requires
+    slice-aggregate-cells
     cells-requires
     returns
     width-of-requires

@@ -1,49 +1,58 @@
--- The loop: the row with what is left of the text is the whole.
-use Prim.Native.Nat.{_-_, _≤_}
-use mathlib.Core.Path.{_≡_, refl, _∙_}
-use mathlib.Core.List.{_++_}
+-- The loop: the cells behind those of the row are the first of the text.
+use Prim.Native.Nat.{_+_, _-_, _≤_}
+use mathlib.Core.Path.{_≡_, refl, sym}
+use mathlib.Core.List.{_++_, append-nil}
 use native.Mathlib.Omega.{arith}
-use lib.ListN.{length, drop}
+use lib.ListN.{length, take, length-set}
 use borrow.Author.Needs.{needs}
-use Rattle.laws.proofs.Cases.{via}
 use Rattle.session.specs.Fits.{mostColumns}
-use Rattle.picture.specs.Row.{rowText, kept}
-use Rattle.picture.proofs.Writing.{length-row, short, full-row, loop-done, text-turn, text-done}
+use Rattle.picture.specs.Row.{rowText}
+use Rattle.picture.proofs.Writing.{full-now, copy-turn, copy-done}
 use Rattle.picture.proofs.row.Row.push_all.Statement.{statement}
 use Rattle.picture.proofs.row.Row.push_all.Tie as tie
 
 abbrev Inv-loop : tie.InvT-loop
-Inv-loop text row₀ i₀ row i = (length (rowText row) ≤ mostColumns) × (kept (rowText row ++ drop i text) ≡ kept (rowText row₀ ++ text))
+Inv-loop text self₀ n count i₀ self i = (length (self .cells) ≡ mostColumns) × (i ≤ count) × (take (n + i) (self .cells) ≡ take n (self₀ .cells) ++ take i text)
 
 abbrev μ-loop : tie.MeasureT-loop
-μ-loop text row₀ i₀ row i = length text - i
-
-loop-holds : tie.Need-loop-holds Inv-loop μ-loop
-loop-holds c = let h : length (c .before .args .self .cells) ≡ 20 = search needs in (length-row (c .before .args .self) h, refl)
-
-is-full-requires : tie.Need-is-full-requires Inv-loop μ-loop
-is-full-requires c κs = search needs
+μ-loop text self₀ n count i₀ self i = count - i
 
 returns : tie.Need-returns Inv-loop μ-loop
-returns c = loop-done (full-row (rowText (c .before .before .before .loop .row)) _ (c .before .before .before .loop .inv .0) (via (c .before .is-full .ensures) (c .if1 .taken))) (c .before .before .before .loop .inv .1)
+returns c = let h : length (c .before .before .args .t1 .cells) ≡ 20 = search needs in record { is = full-now (c .before .before .args .t1) _ h (c .if1 .taken) }
 
-shared-slice-read-push : tie.Need-shared-slice-read-push Inv-loop μ-loop
-shared-slice-read-push c = search needs
+sub-smaller : tie.Need-sub-smaller Inv-loop μ-loop
+sub-smaller c = omega arith
 
-push-requires : tie.Need-push-requires Inv-loop μ-loop
-push-requires c κs = search needs
+smaller-requires : tie.Need-smaller-requires Inv-loop μ-loop
+smaller-requires c κs = search needs
+
+loop-holds : tie.Need-loop-holds Inv-loop μ-loop
+loop-holds c = (search needs, omega arith, let z : c .before .before .before .args .t1 .len + 0 ≡ c .before .before .before .args .t1 .len = omega arith in rw z (sym (append-nil (take (c .before .before .before .args .t1 .len) (c .before .before .before .args .t1 .cells)))))
+
+shared-slice-read-self : tie.Need-shared-slice-read-self Inv-loop μ-loop
+shared-slice-read-self c = omega (arith, c .before .before .before .smaller .ensures)
+
+add-self : tie.Need-add-self Inv-loop μ-loop
+add-self c = omega (arith, c .before .before .before .smaller .ensures)
+
+element-write-self : tie.Need-element-write-self Inv-loop μ-loop
+element-write-self c = omega (arith, c .before .before .before .smaller .ensures, c .before .before .loop .inv .0)
 
 add-i : tie.Need-add-i Inv-loop μ-loop
-add-i c = omega arith
+add-i c = omega (arith, c .before .before .before .smaller .ensures)
 
 loop-less : tie.Need-loop-less Inv-loop μ-loop
 loop-less c = omega arith
 
 loop-again : tie.Need-loop-again Inv-loop μ-loop
-loop-again c = (short (c .push .ensures), text-turn (c .before .before .before .before .before .before .before .args .text .now) (c .before .before .before .before .before .loop .i) _ (omega arith) refl (c .push .ensures) ∙ c .before .before .before .before .before .loop .inv .1)
+loop-again c = (simp length-set (c .before .before .loop .inv .0), omega arith, copy-turn (c .before .before .loop .self .cells) (c .before .before .before .before .before .before .args .text .now) (take (c .before .before .before .before .before .before .args .t1 .len) (c .before .before .before .before .before .before .args .t1 .cells)) (c .before .before .before .before .before .before .args .t1 .len) (c .before .before .loop .i) _ (omega (arith, c .before .before .before .smaller .ensures, c .before .before .loop .inv .0)) (omega (arith, c .before .before .before .smaller .ensures)) refl (c .before .before .loop .inv .2))
+
+add-self-2 : tie.Need-add-self-2 Inv-loop μ-loop
+add-self-2 c = omega (arith, c .before .before .smaller .ensures)
 
 returns-2 : tie.Need-returns-2 Inv-loop μ-loop
-returns-2 c = loop-done (text-done (rowText (c .before .loop .row)) (c .before .before .before .args .text .now) (c .before .loop .i) (c .before .loop .inv .0) (omega arith)) (c .before .loop .inv .1)
+unfolding rowText
+returns-2 c = let h : length (c .before .before .before .before .before .args .t1 .cells) ≡ 20 = search needs in let z : c .before .loop .i ≡ c .before .before .smaller .result = omega arith in copy-done (c .before .before .before .before .before .args .t1 .cells) (c .before .before .before .before .before .args .text .now) (c .before .loop .self .cells) (c .before .before .before .before .before .args .t1 .len) (c .before .before .smaller .result) h (c .before .before .before .if1 .left) (c .before .before .smaller .ensures) (rw z at (c .before .loop .inv .2))
 
 pub push-all-spec : {M : Type 1} → statement M
 push-all-spec =
@@ -51,12 +60,15 @@ push-all-spec =
     (tie.spec
     Inv-loop
     μ-loop
-    loop-holds
-    is-full-requires
     returns
-    shared-slice-read-push
-    push-requires
+    sub-smaller
+    smaller-requires
+    loop-holds
+    shared-slice-read-self
+    add-self
+    element-write-self
     add-i
     loop-less
     loop-again
+    add-self-2
     returns-2)

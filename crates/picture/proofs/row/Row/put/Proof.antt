@@ -1,5 +1,5 @@
 -- The loop: what is left of the row, written onto the picture as it is, is the row written onto the picture as it was.
-use Prim.Native.Nat.{_-_, _≤_}
+use Prim.Native.Nat.{_+_, _-_}
 use mathlib.Core.Path.{_≡_, refl, sym, _∙_}
 use native.Mathlib.Omega.{arith}
 use lib.ListN.{length, drop, length-set}
@@ -7,54 +7,54 @@ use borrow.Author.Needs.{needs}
 use Rattle.laws.specs.Overwrite.{over}
 use Rattle.laws.proofs.Overwriting.{over-out}
 use Rattle.picture.specs.Row.{rowText}
-use Rattle.picture.proofs.Writing.{length-row, put-turn, put-done, short-by-length}
+use Rattle.picture.proofs.Writing.{put-turn, put-done}
 use Rattle.picture.proofs.row.Row.put.Statement.{statement}
 use Rattle.picture.proofs.row.Row.put.Tie as tie
 
 abbrev Inv-loop : tie.InvT-loop
-Inv-loop picture₀ at self k₀ picture k = (length picture ≡ length picture₀) × (at ≤ k) × (over picture k (drop (k - at) (rowText self)) ≡ over picture₀ at (rowText self))
+Inv-loop picture₀ at self count i₀ picture i = (length picture ≡ length picture₀) × (over picture (at + i) (drop i (rowText self)) ≡ over picture₀ at (rowText self))
 
 abbrev μ-loop : tie.MeasureT-loop
-μ-loop picture₀ at self k₀ picture k = length picture₀ - k
-
-loop-holds : tie.Need-loop-holds Inv-loop μ-loop
-loop-holds c = (refl, omega arith, let z : c .args .at - c .args .at ≡ 0 = omega arith in rw z)
-
-sub-i : tie.Need-sub-i Inv-loop μ-loop
-sub-i c = omega arith
-
-same-length : tie.Need-same-length Inv-loop μ-loop
-same-length c = c .before .before .loop .inv .0
+μ-loop picture₀ at self count i₀ picture i = count - i
 
 returns : tie.Need-returns Inv-loop μ-loop
-returns c = sym (put-done (c .before .before .loop .picture) (c .before .before .before .args .t1) (c .before .before .loop .k - c .before .before .before .args .at) (c .before .before .loop .k) (short-by-length (c .before .before .before .args .t1) _ (c .if1 .taken))) ∙ c .before .before .loop .inv .2
+returns c = sym (over-out (c .before .before .args .picture .now) (c .before .before .args .at) _ (c .if1 .taken))
 
-same-length-2 : tie.Need-same-length-2 Inv-loop μ-loop
-same-length-2 c = c .before .before .before .loop .inv .0
+smaller-requires : tie.Need-smaller-requires Inv-loop μ-loop
+smaller-requires c κs = search needs
 
-returns-2 : tie.Need-returns-2 Inv-loop μ-loop
-returns-2 c = let r = c .before .before .before .before .args .t1 in let h : length (r .cells) ≡ 20 = search needs in sym (put-done (c .before .before .before .loop .picture) r (c .before .before .before .loop .k - c .before .before .before .before .args .at) (c .before .before .before .loop .k) (omega (arith, length-row r h, c .if2 .taken))) ∙ c .before .before .before .loop .inv .2
+sub-smaller : tie.Need-sub-smaller Inv-loop μ-loop
+sub-smaller c = omega arith
+
+smaller-requires-2 : tie.Need-smaller-requires-2 Inv-loop μ-loop
+smaller-requires-2 c κs = search needs
+
+loop-holds : tie.Need-loop-holds Inv-loop μ-loop
+loop-holds c = (refl, let z : c .before .before .before .before .args .at + 0 ≡ c .before .before .before .before .args .at = omega arith in rw z)
 
 element-copy-out-picture : tie.Need-element-copy-out-picture Inv-loop μ-loop
-element-copy-out-picture c = search needs
+element-copy-out-picture c = let h : length (c .before .before .before .before .before .before .args .t1 .cells) ≡ 20 = search needs in omega (arith, c .before .before .before .smaller .ensures, c .before .before .smaller2 .ensures)
+
+add-picture : tie.Need-add-picture Inv-loop μ-loop
+add-picture c = omega (arith, c .before .before .before .before .smaller .ensures, c .before .before .before .smaller2 .ensures)
 
 slice-write-picture : tie.Need-slice-write-picture Inv-loop μ-loop
-slice-write-picture c = search needs
+slice-write-picture c = omega (arith, c .before .before .before .before .smaller .ensures, c .before .before .before .smaller2 .ensures, c .before .before .loop .inv .0)
 
-add-k : tie.Need-add-k Inv-loop μ-loop
-add-k c = omega arith
+add-i : tie.Need-add-i Inv-loop μ-loop
+add-i c = omega (arith, c .before .before .before .before .smaller .ensures, c .before .before .before .smaller2 .ensures)
 
 loop-less : tie.Need-loop-less Inv-loop μ-loop
 loop-less c = omega arith
 
 loop-again : tie.Need-loop-again Inv-loop μ-loop
-loop-again c = let r = c .before .before .before .before .before .args .t1 in let h : length (r .cells) ≡ 20 = search needs in (simp length-set (c .before .before .before .before .loop .inv .0), omega arith, put-turn (c .before .before .before .before .loop .picture) r (c .before .before .before .before .before .args .at) (c .before .before .before .before .loop .k) _ (c .before .before .before .before .loop .inv .1) (omega arith) h (omega arith) (c .before .if2 .left) refl ∙ c .before .before .before .before .loop .inv .2)
+loop-again c = let h : length (c .before .before .before .before .before .before .before .args .t1 .cells) ≡ 20 = search needs in (simp length-set (c .before .before .loop .inv .0), put-turn (c .before .before .loop .picture) (c .before .before .before .before .before .before .before .args .t1) (c .before .before .before .before .before .before .before .args .at) (c .before .before .loop .i) _ (omega (arith, c .before .before .before .before .smaller .ensures, c .before .before .before .smaller2 .ensures, c .before .before .loop .inv .0)) h (omega (arith, c .before .before .before .before .smaller .ensures, c .before .before .before .smaller2 .ensures)) (omega (arith, c .before .before .before .before .smaller .ensures, c .before .before .before .smaller2 .ensures)) refl ∙ c .before .before .loop .inv .1)
 
-same-length-3 : tie.Need-same-length-3 Inv-loop μ-loop
-same-length-3 c = c .before .loop .inv .0
+same-length : tie.Need-same-length Inv-loop μ-loop
+same-length c = c .before .loop .inv .0
 
-returns-3 : tie.Need-returns-3 Inv-loop μ-loop
-returns-3 c = sym (over-out (c .before .loop .picture) (c .before .loop .k) _ (omega arith)) ∙ c .before .loop .inv .2
+returns-2 : tie.Need-returns-2 Inv-loop μ-loop
+returns-2 c = let h : length (c .before .before .before .before .before .before .args .t1 .cells) ≡ 20 = search needs in sym (put-done (c .before .loop .picture) (c .before .before .before .before .before .before .args .t1) (c .before .before .before .before .before .before .args .at) (c .before .loop .i) _ _ h (c .before .before .before .smaller .ensures) (rw (c .before .loop .inv .0) (c .before .before .smaller2 .ensures)) (c .loop-test .left)) ∙ c .before .loop .inv .1
 
 pub put-spec : {M : Type 1} → statement M
 put-spec =
@@ -62,16 +62,16 @@ put-spec =
     (tie.spec
     Inv-loop
     μ-loop
-    loop-holds
-    sub-i
-    same-length
     returns
-    same-length-2
-    returns-2
+    smaller-requires
+    sub-smaller
+    smaller-requires-2
+    loop-holds
     element-copy-out-picture
+    add-picture
     slice-write-picture
-    add-k
+    add-i
     loop-less
     loop-again
-    same-length-3
-    returns-3)
+    same-length
+    returns-2)

@@ -1,17 +1,19 @@
 -- Each return is the case of the definition that the tests on its path choose.
+use mathlib.Core.Path.{refl}
 use Rattle.laws.specs.Choice.{_and_}
 use borrow.Author.Tests.{lt-ltb, le-ltb, not-true, not-false}
 use Rattle.session.specs.Fits.{entryFits}
+use Rattle.session.proofs.Stepping.{head-there}
 use borrow.Author.Needs.{needs}
 use Rattle.session.proofs.session.Session.entry_fits.Statement.{statement}
 use Rattle.session.proofs.session.Session.entry_fits.Tie as tie
 
-cursor-head-requires : tie.Need-cursor-head-requires
-cursor-head-requires c κs = search needs
+read-head-requires : tie.Need-read-head-requires
+read-head-requires c κs = search needs
 
 returns : tie.Need-returns
 unfolding entryFits _and_
-returns c = simp (← c .before .before .cursor-head .ensures, not-true (c .before .before .cursor-head .result .protected) (c .if1 .taken))
+returns c = simp (← head-there _ (c .before .before .before .before .args .self .here) _ _ (c .before .before .read-head .result) refl (c .before .before .before .before .pre) (c .before .before .read-head .ensures), not-true (c .before .before .read-head .result .protected) (c .if1 .taken))
 
 byte-at-requires : tie.Need-byte-at-requires
 byte-at-requires c κs = search needs
@@ -21,13 +23,13 @@ digits-to-requires c κs = search needs
 
 returns-2 : tie.Need-returns-2
 unfolding entryFits _and_
-returns-2 c = simp (← c .before .before .before .before .before .cursor-head .ensures, not-false (c .before .before .before .before .before .cursor-head .result .protected) (c .before .before .before .if1 .left), ← c .before .before .byte-at .ensures, lt-ltb _ _ (c .before .if2 .taken), c .digits-to .ensures)
+returns-2 c = simp (← head-there _ (c .before .before .before .before .before .before .before .args .self .here) _ _ (c .before .before .before .before .before .read-head .result) refl (c .before .before .before .before .before .before .before .pre) (c .before .before .before .before .before .read-head .ensures), not-false (c .before .before .before .before .before .read-head .result .protected) (c .before .before .before .if1 .left), ← c .before .before .byte-at .ensures, lt-ltb _ _ (c .before .if2 .taken), c .digits-to .ensures)
 
 returns-3 : tie.Need-returns-3
 unfolding entryFits _and_
-returns-3 c = simp (← c .before .before .before .before .cursor-head .ensures, not-false (c .before .before .before .before .cursor-head .result .protected) (c .before .before .if1 .left), ← c .before .byte-at .ensures, le-ltb _ _ (c .if2 .left))
+returns-3 c = simp (← head-there _ (c .before .before .before .before .before .before .args .self .here) _ _ (c .before .before .before .before .read-head .result) refl (c .before .before .before .before .before .before .pre) (c .before .before .before .before .read-head .ensures), not-false (c .before .before .before .before .read-head .result .protected) (c .before .before .if1 .left), ← c .before .byte-at .ensures, le-ltb _ _ (c .if2 .left))
 
 pub entry-fits-spec : {M : Type 1} → statement M
 entry-fits-spec =
     tie.close
-    (tie.spec cursor-head-requires returns byte-at-requires digits-to-requires returns-2 returns-3)
+    (tie.spec read-head-requires returns byte-at-requires digits-to-requires returns-2 returns-3)

@@ -14,19 +14,19 @@ returns : tie.Need-returns
 unfolding sessionFits _and_
 returns c = simp (via (c .before .shape-fits .ensures) (not-true _ (c .if1 .taken)))
 
-tables-fit-requires : tie.Need-tables-fit-requires
-tables-fit-requires c κs = search needs
+shown-line-requires : tie.Need-shown-line-requires
+shown-line-requires c κs = search needs
 
 returns-2 : tie.Need-returns-2
 unfolding sessionFits _and_
-returns-2 c = simp (via (c .before .before .before .shape-fits .ensures) (not-false _ (c .before .before .if1 .left)), via (c .before .tables-fit .ensures) (not-true _ (c .if2 .taken)))
+returns-2 c = simp (via (c .before .before .before .before .shape-fits .ensures) (not-false _ (c .before .before .before .if1 .left)), via (c .before .before .shown-line .ensures .0) (not-true (c .before .before .shown-line .result .there) (c .if2 .taken)))
 
 mode-fits-requires : tie.Need-mode-fits-requires
-mode-fits-requires c κs = search needs
+mode-fits-requires c κs = c .before .before .shown-line .ensures .1 (not-false (c .before .before .shown-line .result .there) (c .if2 .left))
 
 returns-3 : tie.Need-returns-3
 unfolding sessionFits _and_
-returns-3 c = simp (via (c .before .before .before .before .shape-fits .ensures) (not-false _ (c .before .before .before .if1 .left)), via (c .before .before .tables-fit .ensures) (not-false _ (c .before .if2 .left)), c .mode-fits .ensures)
+returns-3 c = simp (via (c .before .before .before .before .before .shape-fits .ensures) (not-false _ (c .before .before .before .before .if1 .left)), via (c .before .before .before .shown-line .ensures .0) (not-false (c .before .before .before .shown-line .result .there) (c .before .if2 .left)), c .mode-fits .ensures)
 
 pub fits-spec : {M : Type 1} → statement M
 fits-spec =
@@ -34,7 +34,7 @@ fits-spec =
     (tie.spec
     shape-fits-requires
     returns
-    tables-fit-requires
+    shown-line-requires
     returns-2
     mode-fits-requires
     returns-3)
