@@ -5,7 +5,7 @@ ghost use mathlib.Core.Bool.{true, false};
 ghost use mathlib.Core.List.{[], _∷_};
 ghost use Prim.Native.Nat.{ℕ, _+_, _%_, _<_, _≤_, max};
 ghost use lib.ListN.{length};
-ghost use Rattle.laws.specs.Bytes.{byteAt, wordAt};
+ghost use Rattle.laws.specs.Bytes.{byteAt};
 ghost use Rattle.cmf.specs.Limits.{mostFields, mostLinesOfTable};
 ghost use Rattle.cmf.specs.Readers.{evenFrom, headAt};
 ghost use Rattle.cmf.specs.Places.{componentsFrom};
@@ -21,6 +21,7 @@ use cmf::image::Image;
 use cmf::text::password_fits;
 use cmf::title::read_title;
 use field::table::profile_of;
+use laws::word_in;
 
 // Words with a bit for each byte that a sheet may have, and for the place behind the last.
 const WORDS: usize = Image::MAX_SHEET / 64 + 1;
@@ -44,14 +45,6 @@ impl Stage {
             fields: 0,
         }
     }
-}
-
-// The two bytes at a place, low byte first.
-fn word(image: &[u8], at: usize) -> usize
-    requires { ⌜ at + 1 < length (now image) ⌝ }
-    ensures { λ r. ⌜ (r ≡ wordAt (now (image .entry)) at) × (r < 65536) ⌝ }
-{
-    image[at] as usize + 256 * (image[at + 1] as usize)
 }
 
 // Marks bytes of the sheet; not if one of them is marked or is not there.
@@ -155,7 +148,7 @@ fn accept_option(image: &[u8], sheet: usize, p: usize, w: Stage, marks: &mut [u6
     if end == 0 {
         return Stage::doubt();
     }
-    let good = claim(&mut *marks, sheet, word(image, p + 4), 1);
+    let good = claim(&mut *marks, sheet, word_in(image, p + 4), 1);
     Stage {
         good,
         at: end,
@@ -256,7 +249,7 @@ fn plain_end(image: &[u8], before: usize, p: usize) -> usize
     if image.len() < end {
         return 0;
     }
-    if word(image, end - 2) == p - before {
+    if word_in(image, end - 2) == p - before {
         return end;
     }
     0
@@ -274,7 +267,7 @@ fn is_linked(image: &[u8], n: usize, before: usize, p: usize) -> bool
     if tag % 2 == 1 {
         return false;
     }
-    word(image, p + 1 + 2 * (1 - tag / 2 % 2)) == p - before
+    word_in(image, p + 1 + 2 * (1 - tag / 2 % 2)) == p - before
 }
 
 // Where the password at a place ends; 0 in doubt.
@@ -375,7 +368,7 @@ fn submenu_of(image: &[u8], p: usize) -> usize
 {
     let tag = image[p] as usize;
     let at = p + 1 + 2 * (1 - tag / 2 % 2) + 2 * (1 - tag % 2) + 2 * (tag / 4 % 2);
-    Image::PROLOG + word(image, at)
+    Image::PROLOG + word_in(image, at)
 }
 
 // A line at p, with n lines of its table before it; `below` levels are left for its submenu.
@@ -455,7 +448,7 @@ fn accept_table(
             return v;
         }
         before = p;
-        p = p + word(image, p + 1);
+        p = p + word_in(image, p + 1);
         n = n + 1;
     }
     Stage::doubt()

@@ -20,7 +20,7 @@ use Rattle.walk.proofs.accept.Stage.doubt.Reads as doubt-reads
 use Rattle.walk.proofs.accept.accept_components.Reads as accept-components-reads
 use Rattle.walk.proofs.accept.accept_head.Reads as accept-head-reads
 use Rattle.walk.proofs.accept.submenu_of.Reads as submenu-of-reads
-use Rattle.walk.proofs.accept.word.Reads as word-reads
+use Rattle.laws.proofs.word_in.Reads as word-in-reads
 use Rattle.walk.proofs.accept.+accept_line+accept_table.{statement}
 use Rattle.walk.proofs.accept.+accept_line+accept_table.Tie.{close}
 
@@ -274,8 +274,8 @@ accept-table-read-title-requires : (t : ℕ) → accept-table-lts.Need-read-titl
   doubt-reads.Learnt,
   accept-line-below t,
   accept-line.Post,
-  word-reads.Asked,
-  word-reads.Learnt,
+  word-in-reads.Asked,
+  word-in-reads.Learnt,
 ) (accept-table-at t) accept-table.Post accept-table-Inv-loop accept-table-μ-loop
 accept-table-read-title-requires t c κs = search needs
 
@@ -287,8 +287,8 @@ accept-table-doubt-requires : (t : ℕ) → accept-table-lts.Need-doubt-requires
   doubt-reads.Learnt,
   accept-line-below t,
   accept-line.Post,
-  word-reads.Asked,
-  word-reads.Learnt,
+  word-in-reads.Asked,
+  word-in-reads.Learnt,
 ) (accept-table-at t) accept-table.Post accept-table-Inv-loop accept-table-μ-loop
 accept-table-doubt-requires t c κs = search needs
 
@@ -300,8 +300,8 @@ accept-table-returns : (t : ℕ) → accept-table-lts.Need-returns (
   doubt-reads.Learnt,
   accept-line-below t,
   accept-line.Post,
-  word-reads.Asked,
-  word-reads.Learnt,
+  word-in-reads.Asked,
+  word-in-reads.Learnt,
 ) (accept-table-at t) accept-table.Post accept-table-Inv-loop accept-table-μ-loop
 accept-table-returns t c = λ e. clash e (c .doubt .ensures)
 
@@ -313,8 +313,8 @@ accept-table-doubt-requires-2 : (t : ℕ) → accept-table-lts.Need-doubt-requir
   doubt-reads.Learnt,
   accept-line-below t,
   accept-line.Post,
-  word-reads.Asked,
-  word-reads.Learnt,
+  word-in-reads.Asked,
+  word-in-reads.Learnt,
 ) (accept-table-at t) accept-table.Post accept-table-Inv-loop accept-table-μ-loop
 accept-table-doubt-requires-2 t c κs = search needs
 
@@ -326,8 +326,8 @@ accept-table-returns-2 : (t : ℕ) → accept-table-lts.Need-returns-2 (
   doubt-reads.Learnt,
   accept-line-below t,
   accept-line.Post,
-  word-reads.Asked,
-  word-reads.Learnt,
+  word-in-reads.Asked,
+  word-in-reads.Learnt,
 ) (accept-table-at t) accept-table.Post accept-table-Inv-loop accept-table-μ-loop
 accept-table-returns-2 t c = λ e. clash e (c .doubt2 .ensures)
 
@@ -339,8 +339,8 @@ accept-table-sub-below : (t : ℕ) → accept-table-lts.Need-sub-below (
   doubt-reads.Learnt,
   accept-line-below t,
   accept-line.Post,
-  word-reads.Asked,
-  word-reads.Learnt,
+  word-in-reads.Asked,
+  word-in-reads.Learnt,
 ) (accept-table-at t) accept-table.Post accept-table-Inv-loop accept-table-μ-loop
 accept-table-sub-below t c = omega arith
 
@@ -352,8 +352,8 @@ accept-table-loop-holds : (t : ℕ) → accept-table-lts.Need-loop-holds (
   doubt-reads.Learnt,
   accept-line-below t,
   accept-line.Post,
-  word-reads.Asked,
-  word-reads.Learnt,
+  word-in-reads.Asked,
+  word-in-reads.Learnt,
 ) (accept-table-at t) accept-table.Post accept-table-Inv-loop accept-table-μ-loop
 accept-table-loop-holds t c = ((going-start _ _ _ _ _ _, refl), omega arith)
 
@@ -365,8 +365,8 @@ accept-table-accept-line-requires : (t : ℕ) → accept-table-lts.Need-accept-l
   doubt-reads.Learnt,
   accept-line-below t,
   accept-line.Post,
-  word-reads.Asked,
-  word-reads.Learnt,
+  word-in-reads.Asked,
+  word-in-reads.Learnt,
 ) (accept-table-at t) accept-table.Post accept-table-Inv-loop accept-table-μ-loop
 accept-table-accept-line-requires t c κs = (omega (arith, c .before .before .before .before .before .before .before .before .before .pre .0), (c .before .loop-test .taken, c .before .before .loop .inv .1))
 
@@ -378,8 +378,8 @@ accept-table-same-length : (t : ℕ) → accept-table-lts.Need-same-length (
   doubt-reads.Learnt,
   accept-line-below t,
   accept-line.Post,
-  word-reads.Asked,
-  word-reads.Learnt,
+  word-in-reads.Asked,
+  word-in-reads.Learnt,
 ) (accept-table-at t) accept-table.Post accept-table-Inv-loop accept-table-μ-loop
 accept-table-same-length t c = c .before .before .before .before .accept-line .kept .1 .1 .1 .1 .1 .1 .1 .0 ∙ c .before .before .before .before .before .before .before .loop .inv .0 .1
 
@@ -391,8 +391,8 @@ accept-table-returns-3 : (t : ℕ) → accept-table-lts.Need-returns-3 (
   doubt-reads.Learnt,
   accept-line-below t,
   accept-line.Post,
-  word-reads.Asked,
-  word-reads.Learnt,
+  word-in-reads.Asked,
+  word-in-reads.Learnt,
 ) (accept-table-at t) accept-table.Post accept-table-Inv-loop accept-table-μ-loop
 accept-table-returns-3 t c = λ e. clash e (not-true _ (c .if3 .taken))
 
@@ -404,8 +404,8 @@ accept-table-shared-slice-read-if4 : (t : ℕ) → accept-table-lts.Need-shared-
   doubt-reads.Learnt,
   accept-line-below t,
   accept-line.Post,
-  word-reads.Asked,
-  word-reads.Learnt,
+  word-in-reads.Asked,
+  word-in-reads.Learnt,
 ) (accept-table-at t) accept-table.Post accept-table-Inv-loop accept-table-μ-loop
 accept-table-shared-slice-read-if4 t c = omega (arith, c .before .before .before .before .before .accept-line .ensures (not-false _ (c .before .if3 .left)) .1)
 
@@ -417,8 +417,8 @@ accept-table-same-length-2 : (t : ℕ) → accept-table-lts.Need-same-length-2 (
   doubt-reads.Learnt,
   accept-line-below t,
   accept-line.Post,
-  word-reads.Asked,
-  word-reads.Learnt,
+  word-in-reads.Asked,
+  word-in-reads.Learnt,
 ) (accept-table-at t) accept-table.Post accept-table-Inv-loop accept-table-μ-loop
 accept-table-same-length-2 t c = c .before .before .before .before .before .before .accept-line .kept .1 .1 .1 .1 .1 .1 .1 .0 ∙ c .before .before .before .before .before .before .before .before .before .loop .inv .0 .1
 
@@ -430,36 +430,36 @@ accept-table-returns-4 : (t : ℕ) → accept-table-lts.Need-returns-4 (
   doubt-reads.Learnt,
   accept-line-below t,
   accept-line.Post,
-  word-reads.Asked,
-  word-reads.Learnt,
+  word-in-reads.Asked,
+  word-in-reads.Learnt,
 ) (accept-table-at t) accept-table.Post accept-table-Inv-loop accept-table-μ-loop
 accept-table-returns-4 t c = λ e. let o = c .before .before .before .before .before .before .accept-line .ensures e in table-reaches _ _ _ (omega arith) (c .before .before .before .before .before .before .before .before .before .before .before .before .before .read-title .ensures) (c .before .before .before .before .before .before .before .before .before .before .before .if1 .left) (going-last _ _ _ _ (c .before .before .before .before .before .before .before .before .loop-test .taken) (o .0) (o .2) (c .before .before .before .before .before .before .before .before .before .loop .inv .0 .0) (c .if4 .taken))
 
 -- src/accept.rt:464:29
-accept-table-add-word : (t : ℕ) → accept-table-lts.Need-add-word (
+accept-table-add-word-in : (t : ℕ) → accept-table-lts.Need-add-word-in (
   read-title-reads.Asked,
   read-title-reads.Learnt,
   doubt-reads.Asked,
   doubt-reads.Learnt,
   accept-line-below t,
   accept-line.Post,
-  word-reads.Asked,
-  word-reads.Learnt,
+  word-in-reads.Asked,
+  word-in-reads.Learnt,
 ) (accept-table-at t) accept-table.Post accept-table-Inv-loop accept-table-μ-loop
-accept-table-add-word t c = omega (arith, c .before .before .before .before .before .before .accept-line .ensures (not-false _ (c .before .before .if3 .left)) .1)
+accept-table-add-word-in t c = omega (arith, c .before .before .before .before .before .before .accept-line .ensures (not-false _ (c .before .before .if3 .left)) .1)
 
 -- src/accept.rt:464:17
-accept-table-word-requires : (t : ℕ) → accept-table-lts.Need-word-requires (
+accept-table-word-in-requires : (t : ℕ) → accept-table-lts.Need-word-in-requires (
   read-title-reads.Asked,
   read-title-reads.Learnt,
   doubt-reads.Asked,
   doubt-reads.Learnt,
   accept-line-below t,
   accept-line.Post,
-  word-reads.Asked,
-  word-reads.Learnt,
+  word-in-reads.Asked,
+  word-in-reads.Learnt,
 ) (accept-table-at t) accept-table.Post accept-table-Inv-loop accept-table-μ-loop
-accept-table-word-requires t c κs = omega (arith, c .before .before .before .before .before .before .accept-line .ensures (not-false _ (c .before .before .if3 .left)) .1, c .if4 .left)
+accept-table-word-in-requires t c κs = omega (arith, c .before .before .before .before .before .before .accept-line .ensures (not-false _ (c .before .before .if3 .left)) .1, c .if4 .left)
 
 -- src/accept.rt:464:13
 accept-table-add-p : (t : ℕ) → accept-table-lts.Need-add-p (
@@ -469,10 +469,10 @@ accept-table-add-p : (t : ℕ) → accept-table-lts.Need-add-p (
   doubt-reads.Learnt,
   accept-line-below t,
   accept-line.Post,
-  word-reads.Asked,
-  word-reads.Learnt,
+  word-in-reads.Asked,
+  word-in-reads.Learnt,
 ) (accept-table-at t) accept-table.Post accept-table-Inv-loop accept-table-μ-loop
-accept-table-add-p t c = omega (arith, c .before .before .before .before .before .before .before .accept-line .ensures (not-false _ (c .before .before .before .if3 .left)) .1, c .word .ensures .1)
+accept-table-add-p t c = omega (arith, c .before .before .before .before .before .before .before .accept-line .ensures (not-false _ (c .before .before .before .if3 .left)) .1, c .word-in .ensures .1)
 
 -- src/accept.rt:465:13
 accept-table-add-n : (t : ℕ) → accept-table-lts.Need-add-n (
@@ -482,8 +482,8 @@ accept-table-add-n : (t : ℕ) → accept-table-lts.Need-add-n (
   doubt-reads.Learnt,
   accept-line-below t,
   accept-line.Post,
-  word-reads.Asked,
-  word-reads.Learnt,
+  word-in-reads.Asked,
+  word-in-reads.Learnt,
 ) (accept-table-at t) accept-table.Post accept-table-Inv-loop accept-table-μ-loop
 accept-table-add-n t c = omega arith
 
@@ -495,8 +495,8 @@ accept-table-loop-less : (t : ℕ) → accept-table-lts.Need-loop-less (
   doubt-reads.Learnt,
   accept-line-below t,
   accept-line.Post,
-  word-reads.Asked,
-  word-reads.Learnt,
+  word-in-reads.Asked,
+  word-in-reads.Learnt,
 ) (accept-table-at t) accept-table.Post accept-table-Inv-loop accept-table-μ-loop
 accept-table-loop-less t c = omega arith
 
@@ -508,10 +508,10 @@ accept-table-loop-again : (t : ℕ) → accept-table-lts.Need-loop-again (
   doubt-reads.Learnt,
   accept-line-below t,
   accept-line.Post,
-  word-reads.Asked,
-  word-reads.Learnt,
+  word-in-reads.Asked,
+  word-in-reads.Learnt,
 ) (accept-table-at t) accept-table.Post accept-table-Inv-loop accept-table-μ-loop
-accept-table-loop-again t c = let o = c .before .before .before .before .before .before .before .accept-line .ensures (not-false _ (c .before .before .before .if3 .left)) in ((rw (c .word .ensures .0) (going-more _ _ _ _ (c .before .before .before .before .before .before .before .before .before .loop-test .taken) (o .0) (o .2) (c .before .before .before .before .before .before .before .before .before .before .loop .inv .0 .0) (omega (arith, c .before .if4 .left))), c .before .before .before .before .before .before .before .accept-line .kept .1 .1 .1 .1 .1 .1 .1 .0 ∙ c .before .before .before .before .before .before .before .before .before .before .loop .inv .0 .1), omega arith)
+accept-table-loop-again t c = let o = c .before .before .before .before .before .before .before .accept-line .ensures (not-false _ (c .before .before .before .if3 .left)) in ((rw (c .word-in .ensures .0) (going-more _ _ _ _ (c .before .before .before .before .before .before .before .before .before .loop-test .taken) (o .0) (o .2) (c .before .before .before .before .before .before .before .before .before .before .loop .inv .0 .0) (omega (arith, c .before .if4 .left))), c .before .before .before .before .before .before .before .accept-line .kept .1 .1 .1 .1 .1 .1 .1 .0 ∙ c .before .before .before .before .before .before .before .before .before .before .loop .inv .0 .1), omega arith)
 
 -- src/accept.rt:467:5
 accept-table-doubt-requires-3 : (t : ℕ) → accept-table-lts.Need-doubt-requires-3 (
@@ -521,8 +521,8 @@ accept-table-doubt-requires-3 : (t : ℕ) → accept-table-lts.Need-doubt-requir
   doubt-reads.Learnt,
   accept-line-below t,
   accept-line.Post,
-  word-reads.Asked,
-  word-reads.Learnt,
+  word-in-reads.Asked,
+  word-in-reads.Learnt,
 ) (accept-table-at t) accept-table.Post accept-table-Inv-loop accept-table-μ-loop
 accept-table-doubt-requires-3 t c κs = search needs
 
@@ -534,8 +534,8 @@ accept-table-same-length-3 : (t : ℕ) → accept-table-lts.Need-same-length-3 (
   doubt-reads.Learnt,
   accept-line-below t,
   accept-line.Post,
-  word-reads.Asked,
-  word-reads.Learnt,
+  word-in-reads.Asked,
+  word-in-reads.Learnt,
 ) (accept-table-at t) accept-table.Post accept-table-Inv-loop accept-table-μ-loop
 accept-table-same-length-3 t c = c .before .before .loop .inv .0 .1
 
@@ -547,8 +547,8 @@ accept-table-returns-5 : (t : ℕ) → accept-table-lts.Need-returns-5 (
   doubt-reads.Learnt,
   accept-line-below t,
   accept-line.Post,
-  word-reads.Asked,
-  word-reads.Learnt,
+  word-in-reads.Asked,
+  word-in-reads.Learnt,
 ) (accept-table-at t) accept-table.Post accept-table-Inv-loop accept-table-μ-loop
 accept-table-returns-5 t c = λ e. clash e (c .doubt3 .ensures)
 
@@ -588,8 +588,8 @@ pub +accept-line+accept-table-spec : {M : Type 1} → statement M
       doubt-reads.Learnt,
       accept-line-below t,
       accept-line.Post,
-      word-reads.Asked,
-      word-reads.Learnt,
+      word-in-reads.Asked,
+      word-in-reads.Learnt,
     )
     (accept-table-at t)
     accept-table.Post
@@ -608,8 +608,8 @@ pub +accept-line+accept-table-spec : {M : Type 1} → statement M
     (accept-table-shared-slice-read-if4 t)
     (accept-table-same-length-2 t)
     (accept-table-returns-4 t)
-    (accept-table-add-word t)
-    (accept-table-word-requires t)
+    (accept-table-add-word-in t)
+    (accept-table-word-in-requires t)
     (accept-table-add-p t)
     (accept-table-add-n t)
     (accept-table-loop-less t)

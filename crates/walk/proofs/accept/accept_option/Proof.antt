@@ -10,7 +10,7 @@ use Rattle.walk.proofs.accept.accept_option.Lts as lts
 use Rattle.walk.proofs.accept.Stage.doubt.Reads as doubt-reads
 use Rattle.walk.proofs.accept.claim.Reads as claim-reads
 use Rattle.walk.proofs.accept.option_end.Reads as option-end-reads
-use Rattle.walk.proofs.accept.word.Reads as word-reads
+use Rattle.laws.proofs.word_in.Reads as word-in-reads
 
 -- src/accept.rt:154:9
 option-end-requires : tie.Need-option-end-requires
@@ -25,12 +25,12 @@ returns : tie.Need-returns
 returns c = λ e. clash e (c .doubt .ensures)
 
 -- src/accept.rt:158:54
-add-word : tie.Need-add-word
-add-word c = search needs
+add-word-in : tie.Need-add-word-in
+add-word-in c = search needs
 
 -- src/accept.rt:158:42
-word-requires : tie.Need-word-requires
-word-requires c κs = omega (arith, c .before .before .option-end .ensures (omega arith) .0)
+word-in-requires : tie.Need-word-in-requires
+word-in-requires c κs = omega (arith, c .before .before .option-end .ensures (omega arith) .0)
 
 -- src/accept.rt:158:9
 claim-requires : tie.Need-claim-requires
@@ -46,7 +46,7 @@ same-length c = search needs
 
 -- src/accept.rt:150:1
 returns-2 : tie.Need-returns-2
-returns-2 c = λ e. option-passes _ _ (c .before .before .before .before .before .before .before .option-end .ensures (omega arith) .1) (c .before .before .before .before .word .ensures .0) (c .before .before .before .before .before .before .before .before .before .before .pre .1 .1) (c .before .before .before .claim .ensures e)
+returns-2 c = λ e. option-passes _ _ (c .before .before .before .before .before .before .before .option-end .ensures (omega arith) .1) (c .before .before .before .before .word-in .ensures .0) (c .before .before .before .before .before .before .before .before .before .before .pre .1 .1) (c .before .before .before .claim .ensures e)
 
 pub accept-option-spec : {M : Type 1} → statement M
 accept-option-spec =
@@ -55,8 +55,8 @@ accept-option-spec =
     option-end-requires
     doubt-requires
     returns
-    add-word
-    word-requires
+    add-word-in
+    word-in-requires
     claim-requires
     add-t11
     same-length

@@ -9,7 +9,7 @@ use Rattle.walk.proofs.accept.is_linked.Statement.{statement}
 use Rattle.walk.proofs.accept.is_linked.Tie as tie
 use Rattle.walk.proofs.accept.is_linked.Reads as reads
 use Rattle.walk.proofs.accept.is_linked.Lts as lts
-use Rattle.walk.proofs.accept.word.Reads as word-reads
+use Rattle.laws.proofs.word_in.Reads as word-in-reads
 
 -- src/accept.rt:276:15
 shared-slice-read-tag : tie.Need-shared-slice-read-tag
@@ -28,24 +28,24 @@ returns-2 : tie.Need-returns-2
 returns-2 c = λ e. absurd (false≢true e)
 
 -- src/accept.rt:283:17
-add-word : tie.Need-add-word
-add-word c = search needs
+add-word-in : tie.Need-add-word-in
+add-word-in c = search needs
 
 -- src/accept.rt:283:30
-sub-word : tie.Need-sub-word
-sub-word c = search needs
+sub-word-in : tie.Need-sub-word-in
+sub-word-in c = search needs
 
 -- src/accept.rt:283:25
-mul-word : tie.Need-mul-word
-mul-word c = search needs
+mul-word-in : tie.Need-mul-word-in
+mul-word-in c = search needs
 
 -- src/accept.rt:283:17
-add-word-2 : tie.Need-add-word-2
-add-word-2 c = search needs
+add-word-in-2 : tie.Need-add-word-in-2
+add-word-in-2 c = search needs
 
 -- src/accept.rt:283:5
-word-requires : tie.Need-word-requires
-word-requires c κs = search needs
+word-in-requires : tie.Need-word-in-requires
+word-in-requires c κs = search needs
 
 -- src/accept.rt:283:51
 sub-result : tie.Need-sub-result
@@ -53,7 +53,7 @@ sub-result c = search needs
 
 -- src/accept.rt:272:1
 returns-3 : tie.Need-returns-3
-returns-3 c = λ e. linked-later _ _ _ _ (c .before .before .if1 .left) (c .before .if2 .left) (c .before .before .before .before .before .pre .1) (sym (c .word .ensures .0) ∙ eqb-true _ _ e)
+returns-3 c = λ e. linked-later _ _ _ _ (c .before .before .if1 .left) (c .before .if2 .left) (c .before .before .before .before .before .pre .1) (sym (c .word-in .ensures .0) ∙ eqb-true _ _ e)
 
 pub is-linked-spec : {M : Type 1} → statement M
 is-linked-spec =
@@ -63,10 +63,10 @@ is-linked-spec =
     cast-tag
     returns
     returns-2
-    add-word
-    sub-word
-    mul-word
-    add-word-2
-    word-requires
+    add-word-in
+    sub-word-in
+    mul-word-in
+    add-word-in-2
+    word-in-requires
     sub-result
     returns-3)

@@ -7,7 +7,7 @@ use Rattle.walk.proofs.accept.plain_end.Statement.{statement}
 use Rattle.walk.proofs.accept.plain_end.Tie as tie
 use Rattle.walk.proofs.accept.plain_end.Reads as reads
 use Rattle.walk.proofs.accept.plain_end.Lts as lts
-use Rattle.walk.proofs.accept.word.Reads as word-reads
+use Rattle.laws.proofs.word_in.Reads as word-in-reads
 
 -- src/accept.rt:261:15
 add-end : tie.Need-add-end
@@ -30,12 +30,12 @@ returns : tie.Need-returns
 returns c = λ e. absurd (omega arith)
 
 -- src/accept.rt:265:20
-sub-word : tie.Need-sub-word
-sub-word c = search needs
+sub-word-in : tie.Need-sub-word-in
+sub-word-in c = search needs
 
 -- src/accept.rt:265:8
-word-requires : tie.Need-word-requires
-word-requires c κs = search needs
+word-in-requires : tie.Need-word-in-requires
+word-in-requires c κs = search needs
 
 -- src/accept.rt:265:32
 sub-if2 : tie.Need-sub-if2
@@ -43,7 +43,7 @@ sub-if2 c = search needs
 
 -- src/accept.rt:266:9
 returns-2 : tie.Need-returns-2
-returns-2 c = λ _ n z. plain-is _ n _ _ _ z (c .before .before .before .before .before .pre .1 .1 .0) (c .before .before .before .before .before .pre .1 .1 .1) refl (omega arith) (c .before .before .before .before .before .pre .1 .0) (sym (c .before .word .ensures .0) ∙ c .if2 .taken)
+returns-2 c = λ _ n z. plain-is _ n _ _ _ z (c .before .before .before .before .before .pre .1 .1 .0) (c .before .before .before .before .before .pre .1 .1 .1) refl (omega arith) (c .before .before .before .before .before .pre .1 .0) (sym (c .before .word-in .ensures .0) ∙ c .if2 .taken)
 
 -- src/accept.rt:257:1
 returns-3 : tie.Need-returns-3
@@ -58,8 +58,8 @@ plain-end-spec =
     cast-end
     sub-end
     returns
-    sub-word
-    word-requires
+    sub-word-in
+    word-in-requires
     sub-if2
     returns-2
     returns-3)

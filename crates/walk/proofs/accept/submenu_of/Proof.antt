@@ -6,7 +6,7 @@ use Rattle.walk.proofs.accept.submenu_of.Statement.{statement}
 use Rattle.walk.proofs.accept.submenu_of.Tie as tie
 use Rattle.walk.proofs.accept.submenu_of.Reads as reads
 use Rattle.walk.proofs.accept.submenu_of.Lts as lts
-use Rattle.walk.proofs.accept.word.Reads as word-reads
+use Rattle.laws.proofs.word_in.Reads as word-in-reads
 
 -- src/accept.rt:382:15
 shared-slice-read-tag : tie.Need-shared-slice-read-tag
@@ -53,8 +53,8 @@ add-at-4 : tie.Need-add-at-4
 add-at-4 c = search needs
 
 -- src/accept.rt:384:21
-word-requires : tie.Need-word-requires
-word-requires c κs = search needs
+word-in-requires : tie.Need-word-in-requires
+word-in-requires c κs = search needs
 
 -- src/accept.rt:384:5
 add-result : tie.Need-add-result
@@ -62,7 +62,7 @@ add-result c = search needs
 
 -- src/accept.rt:378:1
 returns : tie.Need-returns
-returns c = rw (c .word .ensures .0) (submenu-is (c .before .before .before .args .image .now) (c .before .before .before .args .p))
+returns c = rw (c .word-in .ensures .0) (submenu-is (c .before .before .before .args .image .now) (c .before .before .before .args .p))
 
 pub submenu-of-spec : {M : Type 1} → statement M
 submenu-of-spec =
@@ -79,6 +79,6 @@ submenu-of-spec =
     add-at-3
     mul-at-3
     add-at-4
-    word-requires
+    word-in-requires
     add-result
     returns)
