@@ -1,34 +1,29 @@
 -- Where the quick walk has no doubt the check's walk comes as far: piece by piece, and over the components of a line and the lines of a table.
-use Prim.Native.Nat.{ℕ, zero, suc, _+_, _-_, _≤_, _<_}
+use Prim.Native.Nat.{ℕ, zero, suc, _+_, _≤_, _<_}
 use mathlib.Core.Path.{_≡_, refl, sym, ap, _∙_}
 use mathlib.Core.Bool.{Bool, true, false}
-use mathlib.Core.List.{List, [], _∷_, _++_, append-nil}
+use mathlib.Core.List.{List, [], _∷_, append-nil}
 use native.Mathlib.Omega.{arith}
-use lib.ListN.{length, getD, length-append}
-use borrow.Author.Tests.{eqb-true}
-use Rattle.laws.specs.Choice.{_=?_}
+use lib.ListN.{length, length-append}
 use Rattle.laws.specs.Bytes.{wordAt}
-use Rattle.laws.proofs.Cases.{by-test, if-true, if-false}
+use Rattle.laws.proofs.Cases.{if-true, if-false}
 use Rattle.field.specs.Table.{profileOf}
 use Rattle.field.specs.Sheet.{sizeOf}
 use Rattle.field.specs.declared.record.Field.{Field}
-use Rattle.cmf.specs.Limits.{mostFields, mostLinesOfTable, longestSheet}
-use Rattle.cmf.specs.Readers.{evenFrom, oddFrom, titleAt, headAt, componentAt}
-use Rattle.cmf.specs.Places.{linesFrom, linesOf, componentsFrom, componentsOf}
+use Rattle.cmf.specs.Limits.{mostFields, longestSheet}
+use Rattle.cmf.specs.Readers.{evenFrom, oddFrom, componentAt}
+use Rattle.cmf.specs.Places.{componentsFrom}
 use Rattle.cmf.specs.Layouts.{Aligned, Component, optionAt, lastBit}
-use Rattle.cmf.specs.Grammar.{Head, isLast, hasSubmenu, nextLine, submenuTable}
 use Rattle.cmf.specs.declared.component.Component as read
 use Rattle.cmf.proofs.Agreement.{Agree}
 use Rattle.cmf.proofs.Agreeing.{agree}
 use Rattle.walk.specs.declared.accept.Stage.{Stage}
 use Rattle.walk.specs.declared.index.Entry.{Entry}
-use Rattle.walk.specs.Check.{State, state, with, fine, andThen, behind, padded, entryOf, onComponent, onComponents, onHead, onTitle, onSubmenu, onBody, onLine, onLines, onTable, start, walked, prologCode, checked, refusalOf}
-use Rattle.walk.specs.Accept.{Claimed, Claims, Placed, Passes, Covers, Stands, Reaches}
-use Rattle.walk.proofs.Stood.{stood, put, stood-fine}
+use Rattle.walk.specs.Check.{State, fine, andThen, padded, entryOf, onComponent, onComponents}
+use Rattle.walk.specs.Accept.{Claimed, Claims, Passes, Covers, Stands, Reaches}
+use Rattle.walk.proofs.Stood.{stood, put}
 use Rattle.walk.proofs.Takes.{Takes, sheet-is}
-use Rattle.walk.proofs.Steps.{padded-reads, title-goes, head-goes, component-goes}
-use Rattle.walk.proofs.Line.{head-reads, last-marked, more-marked, submenu-marked, plain-marked}
-use Rattle.walk.proofs.Tables.{lines-last, lines-more}
+use Rattle.walk.proofs.Steps.{padded-reads, component-goes}
 use Rattle.walk.proofs.Marks.{covers-apart, covers-kept, covers-add}
 
 -- ---- states that stand

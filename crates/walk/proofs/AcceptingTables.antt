@@ -1,8 +1,8 @@
 -- Where the quick walk has no doubt the check's walk comes as far: over heads, lines and tables, and from the top table to the answer.
-use Prim.Native.Nat.{ℕ, zero, suc, _+_, _-_, _≤_, _<_}
+use Prim.Native.Nat.{ℕ, suc, _+_, _-_, _≤_, _<_}
 use mathlib.Core.Path.{_≡_, refl, sym, ap, _∙_}
-use mathlib.Core.Bool.{true, false}
-use mathlib.Core.List.{List, []}
+use mathlib.Core.Bool.{true}
+use mathlib.Core.List.{List}
 use native.Mathlib.Omega.{arith}
 use lib.ListN.{length}
 use Rattle.laws.specs.Choice.{if_then_else_}
@@ -15,10 +15,8 @@ use Rattle.cmf.specs.declared.title.Title as read-title
 use Rattle.cmf.proofs.Agreement.{Agree, HeadReads}
 use Rattle.cmf.proofs.Agreeing.{agree}
 use Rattle.walk.specs.declared.accept.Stage.{Stage}
-use Rattle.walk.specs.declared.index.Entry.{Entry}
 use Rattle.walk.specs.Check.{State, onComponents, onHead, onTitle, onSubmenu, onBody, onLine, onLines, onTable, start, walked, prologCode, checked, refusalOf}
 use Rattle.walk.specs.Accept.{Placed, Covers, Stands, Reaches}
-use Rattle.walk.proofs.Stood.{stood}
 use Rattle.walk.proofs.Steps.{title-goes, head-goes}
 use Rattle.walk.proofs.Line.{last-marked, more-marked, submenu-marked, plain-marked}
 use Rattle.walk.proofs.Tables.{lines-last, lines-more}

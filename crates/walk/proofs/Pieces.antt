@@ -1,24 +1,20 @@
 -- The usual pieces of an image, recognised by a few tests: constant strings, options, and the heads of later lines.
-use Prim.Native.Nat.{ℕ, zero, suc, _+_, _-_, _*_, _/_, _%_, _≤_, _<_, max}
-use mathlib.Core.Path.{_≡_, refl, sym}
+use Prim.Native.Nat.{ℕ, suc, _+_, _-_, _*_, _/_, _%_, _≤_, _<_, max}
+use mathlib.Core.Path.{_≡_, refl, sym, _∙_}
 use mathlib.Core.Bool.{true}
 use mathlib.Core.List.{List, [], _∷_}
 use native.Mathlib.Omega.{arith}
-use lib.ListN.{length, take, drop}
-use borrow.Author.Tests.{le-leb}
-use Rattle.laws.specs.Choice.{_and_}
+use lib.ListN.{length}
+use borrow.Author.Tests.{lt-ltb}
 use Rattle.laws.specs.Bytes.{byteAt, wordAt}
-use Rattle.laws.specs.Overwrite.{fit}
-use Rattle.laws.specs.Digits.{fromLow, numberFrom}
-use Rattle.laws.proofs.Cases.{and-i}
-use Rattle.field.specs.Table.{profileOf, cellOf}
+use Rattle.field.specs.Table.{profileOf}
 use Rattle.field.specs.Values.{numberOf, valueAt}
-use Rattle.field.specs.Cells.{cellsOf, inSpan, within, legalTo, legal, inRange}
-use Rattle.field.specs.Settings.{goodSettings, settingsFit}
+use Rattle.field.specs.Settings.{settingsFit}
 use Rattle.field.specs.declared.kind.Kind.the-variants.{Option}
 use Rattle.cmf.specs.Limits.{prologBytes}
 use Rattle.cmf.specs.Layouts.{bit, Text, Texts, Component, optionAt}
 use Rattle.cmf.specs.Grammar.{Head, Password, Digits, isFirst, isLast, isDynamic, hasSubmenu, previousAt, passwordAt, submenuTable}
+use Rattle.cmf.proofs.Usual.{one-byte, option-good}
 use Rattle.walk.specs.Accept.{Linked}
 
 -- the bits of a tag that is 0 or 2
@@ -71,16 +67,9 @@ module _ (im : List ℕ) where
 
   -- ---- an option
 
-  one-byte : (s : List ℕ) (at : ℕ) → at < length s → take 1 (drop at s) ≡ byteAt s at ∷ []
-  one-byte (x ∷ s) zero h = refl
-  one-byte (x ∷ s) (suc at) h = one-byte s at (omega arith)
-  one-byte [] at h = absurd (omega arith)
-
   -- a default below the count of items is in range
-  option-fits : (n w at : ℕ) → at < length im → byteAt im at < n → settingsFit (Option n w) (valueAt at 1 im) ≡ true
-  unfolding settingsFit goodSettings inRange inSpan legal legalTo within cellsOf cellOf profileOf numberOf fromLow numberFrom fit _and_
-  option-fits n w at i h =
-      rw (one-byte im at i) (and-i (le-leb 1 n (omega arith)) (and-i (le-leb 0 (0 + byteAt im at) (omega arith)) (le-leb (0 + byteAt im at) (n - 1) (omega arith))))
+  option-fits : (n w at : ℕ) → byteAt im at < n → settingsFit (Option n w) (valueAt at 1 im) ≡ true
+  option-fits n w at h = sym (option-good n w (valueAt at 1 im)) ∙ lt-ltb (numberOf (valueAt at 1 im)) n (rw (one-byte at im) h)
 
   pub option-is :
       (at end : ℕ) → byteAt im at % 32 ≡ 0x14 → at + 10 ≤ length im → byteAt im (at + 9) < byteAt im (at + 7) → end ≡ at + byteAt im (at + 6) →
@@ -88,7 +77,7 @@ module _ (im : List ℕ) where
   unfolding profileOf
   option-is at end t i d e ts =
       Component.option (omega arith) (record { inside = i; items = ts; counted = e })
-      (record { good = option-fits (byteAt im (at + 7)) (byteAt im (at + 8)) (at + 9) (omega arith) d })
+      (record { good = option-fits (byteAt im (at + 7)) (byteAt im (at + 8)) (at + 9) d })
 
   -- ---- the head of a later line that has no mark but that of the last
 

@@ -50,7 +50,6 @@ accept-table-below t =
     (falls 2 accept-table-kinds.ps _<_ μ-accept-table t)
     accept-table.Pre
 
--- src/accept.rt:401:9
 accept-line-accept-head-requires : (t : ℕ) → accept-line-lts.Need-accept-head-requires (
   accept-head-reads.Asked,
   accept-head-reads.Learnt,
@@ -65,7 +64,6 @@ accept-line-accept-head-requires : (t : ℕ) → accept-line-lts.Need-accept-hea
 ) (accept-line-at t) accept-line.Post
 accept-line-accept-head-requires t c κs = c .before .before .pre .1 .1
 
--- src/accept.rt:403:9
 accept-line-doubt-requires : (t : ℕ) → accept-line-lts.Need-doubt-requires (
   accept-head-reads.Asked,
   accept-head-reads.Learnt,
@@ -80,7 +78,6 @@ accept-line-doubt-requires : (t : ℕ) → accept-line-lts.Need-doubt-requires (
 ) (accept-line-at t) accept-line.Post
 accept-line-doubt-requires t c κs = search needs
 
--- src/accept.rt:403:9
 accept-line-returns : (t : ℕ) → accept-line-lts.Need-returns (
   accept-head-reads.Asked,
   accept-head-reads.Learnt,
@@ -95,7 +92,6 @@ accept-line-returns : (t : ℕ) → accept-line-lts.Need-returns (
 ) (accept-line-at t) accept-line.Post
 accept-line-returns t c = λ e. clash e (c .doubt .ensures)
 
--- src/accept.rt:408:16
 accept-line-add-t14 : (t : ℕ) → accept-line-lts.Need-add-t14 (
   accept-head-reads.Asked,
   accept-head-reads.Learnt,
@@ -110,7 +106,6 @@ accept-line-add-t14 : (t : ℕ) → accept-line-lts.Need-add-t14 (
 ) (accept-line-at t) accept-line.Post
 accept-line-add-t14 t c = omega (arith, c .before .before .accept-head .ensures (omega arith) .room)
 
--- src/accept.rt:411:9
 accept-line-accept-components-requires : (t : ℕ) → accept-line-lts.Need-accept-components-requires (
   accept-head-reads.Asked,
   accept-head-reads.Learnt,
@@ -125,7 +120,6 @@ accept-line-accept-components-requires : (t : ℕ) → accept-line-lts.Need-acce
 ) (accept-line-at t) accept-line.Post
 accept-line-accept-components-requires t c κs = search needs
 
--- src/accept.rt:413:9
 accept-line-same-length : (t : ℕ) → accept-line-lts.Need-same-length (
   accept-head-reads.Asked,
   accept-head-reads.Learnt,
@@ -140,7 +134,6 @@ accept-line-same-length : (t : ℕ) → accept-line-lts.Need-same-length (
 ) (accept-line-at t) accept-line.Post
 accept-line-same-length t c = c .before .before .before .before .accept-components .kept .1 .1 .1 .0
 
--- src/accept.rt:413:9
 accept-line-returns-2 : (t : ℕ) → accept-line-lts.Need-returns-2 (
   accept-head-reads.Asked,
   accept-head-reads.Learnt,
@@ -155,7 +148,6 @@ accept-line-returns-2 : (t : ℕ) → accept-line-lts.Need-returns-2 (
 ) (accept-line-at t) accept-line.Post
 accept-line-returns-2 t c = λ e. clash e (not-true _ (c .if2 .taken))
 
--- src/accept.rt:415:8
 accept-line-shared-slice-read-if3 : (t : ℕ) → accept-line-lts.Need-shared-slice-read-if3 (
   accept-head-reads.Asked,
   accept-head-reads.Learnt,
@@ -170,7 +162,6 @@ accept-line-shared-slice-read-if3 : (t : ℕ) → accept-line-lts.Need-shared-sl
 ) (accept-line-at t) accept-line.Post
 accept-line-shared-slice-read-if3 t c = omega (arith, c .before .before .before .before .before .before .before .before .before .accept-head .ensures (omega arith) .inside)
 
--- src/accept.rt:416:51
 accept-line-submenu-of-requires : (t : ℕ) → accept-line-lts.Need-submenu-of-requires (
   accept-head-reads.Asked,
   accept-head-reads.Learnt,
@@ -185,7 +176,6 @@ accept-line-submenu-of-requires : (t : ℕ) → accept-line-lts.Need-submenu-of-
 ) (accept-line-at t) accept-line.Post
 accept-line-submenu-of-requires t c κs = (c .before .before .before .before .before .before .before .before .before .before .accept-head .ensures (omega arith) .head .inside, c .if3 .taken)
 
--- src/accept.rt:416:13
 accept-line-accept-table-requires : (t : ℕ) → accept-line-lts.Need-accept-table-requires (
   accept-head-reads.Asked,
   accept-head-reads.Learnt,
@@ -200,7 +190,6 @@ accept-line-accept-table-requires : (t : ℕ) → accept-line-lts.Need-accept-ta
 ) (accept-line-at t) accept-line.Post
 accept-line-accept-table-requires t c κs = (omega (arith, c .before .before .before .before .before .before .before .before .before .before .before .before .before .before .before .pre .0), tt)
 
--- src/accept.rt:417:9
 accept-line-same-length-2 : (t : ℕ) → accept-line-lts.Need-same-length-2 (
   accept-head-reads.Asked,
   accept-head-reads.Learnt,
@@ -215,7 +204,6 @@ accept-line-same-length-2 : (t : ℕ) → accept-line-lts.Need-same-length-2 (
 ) (accept-line-at t) accept-line.Post
 accept-line-same-length-2 t c = c .before .before .accept-table .kept .1 .1 .1 .1 .1 .0 ∙ c .before .before .before .before .before .before .before .before .before .before .before .accept-components .kept .1 .1 .1 .0
 
--- src/accept.rt:417:9
 accept-line-returns-3 : (t : ℕ) → accept-line-lts.Need-returns-3 (
   accept-head-reads.Asked,
   accept-head-reads.Learnt,
@@ -230,7 +218,6 @@ accept-line-returns-3 : (t : ℕ) → accept-line-lts.Need-returns-3 (
 ) (accept-line-at t) accept-line.Post
 accept-line-returns-3 t c = λ e. let q = c .before .before .before .before .before .before .before .before .before .before .before .before .before .before .before .accept-head .ensures (omega arith) in let b = c .before .before .before .before .before .before .before .before .before .before .before .accept-components .ensures (not-false _ (c .before .before .before .before .before .before .before .if2 .left)) in (reads _ _ (c .before .before .before .before .before .before .before .before .before .before .before .before .before .before .before .before .before .before .pre .1 .0) q b, q .head .inside, deep-line _ _ (c .before .before .before .before .before .before .before .before .before .before .before .before .before .before .before .before .before .before .pre .1 .0) q b _ (c .before .before .before .before .before .if3 .taken) (rw (c .before .before .before .before .submenu-of .ensures) at (c .before .before .accept-table .ensures e)))
 
--- src/accept.rt:388:1
 accept-line-same-length-3 : (t : ℕ) → accept-line-lts.Need-same-length-3 (
   accept-head-reads.Asked,
   accept-head-reads.Learnt,
@@ -245,7 +232,6 @@ accept-line-same-length-3 : (t : ℕ) → accept-line-lts.Need-same-length-3 (
 ) (accept-line-at t) accept-line.Post
 accept-line-same-length-3 t c = c .before .before .before .before .before .before .accept-components .kept .1 .1 .1 .0
 
--- src/accept.rt:388:1
 accept-line-returns-4 : (t : ℕ) → accept-line-lts.Need-returns-4 (
   accept-head-reads.Asked,
   accept-head-reads.Learnt,
@@ -266,7 +252,6 @@ accept-table-Inv-loop image sheet left table marks₀ below v₀ n₀ before₀ 
 abbrev accept-table-μ-loop : accept-table-lts.MeasureT-loop
 accept-table-μ-loop image sheet left table marks₀ below v₀ n₀ before₀ p₀ marks v n before p = 99 - n
 
--- src/accept.rt:438:9
 accept-table-read-title-requires : (t : ℕ) → accept-table-lts.Need-read-title-requires (
   read-title-reads.Asked,
   read-title-reads.Learnt,
@@ -279,7 +264,6 @@ accept-table-read-title-requires : (t : ℕ) → accept-table-lts.Need-read-titl
 ) (accept-table-at t) accept-table.Post accept-table-Inv-loop accept-table-μ-loop
 accept-table-read-title-requires t c κs = search needs
 
--- src/accept.rt:440:9
 accept-table-doubt-requires : (t : ℕ) → accept-table-lts.Need-doubt-requires (
   read-title-reads.Asked,
   read-title-reads.Learnt,
@@ -292,7 +276,6 @@ accept-table-doubt-requires : (t : ℕ) → accept-table-lts.Need-doubt-requires
 ) (accept-table-at t) accept-table.Post accept-table-Inv-loop accept-table-μ-loop
 accept-table-doubt-requires t c κs = search needs
 
--- src/accept.rt:440:9
 accept-table-returns : (t : ℕ) → accept-table-lts.Need-returns (
   read-title-reads.Asked,
   read-title-reads.Learnt,
@@ -305,7 +288,6 @@ accept-table-returns : (t : ℕ) → accept-table-lts.Need-returns (
 ) (accept-table-at t) accept-table.Post accept-table-Inv-loop accept-table-μ-loop
 accept-table-returns t c = λ e. clash e (c .doubt .ensures)
 
--- src/accept.rt:443:9
 accept-table-doubt-requires-2 : (t : ℕ) → accept-table-lts.Need-doubt-requires-2 (
   read-title-reads.Asked,
   read-title-reads.Learnt,
@@ -318,7 +300,6 @@ accept-table-doubt-requires-2 : (t : ℕ) → accept-table-lts.Need-doubt-requir
 ) (accept-table-at t) accept-table.Post accept-table-Inv-loop accept-table-μ-loop
 accept-table-doubt-requires-2 t c κs = search needs
 
--- src/accept.rt:443:9
 accept-table-returns-2 : (t : ℕ) → accept-table-lts.Need-returns-2 (
   read-title-reads.Asked,
   read-title-reads.Learnt,
@@ -331,7 +312,6 @@ accept-table-returns-2 : (t : ℕ) → accept-table-lts.Need-returns-2 (
 ) (accept-table-at t) accept-table.Post accept-table-Inv-loop accept-table-μ-loop
 accept-table-returns-2 t c = λ e. clash e (c .doubt2 .ensures)
 
--- src/accept.rt:445:17
 accept-table-sub-below : (t : ℕ) → accept-table-lts.Need-sub-below (
   read-title-reads.Asked,
   read-title-reads.Learnt,
@@ -344,7 +324,6 @@ accept-table-sub-below : (t : ℕ) → accept-table-lts.Need-sub-below (
 ) (accept-table-at t) accept-table.Post accept-table-Inv-loop accept-table-μ-loop
 accept-table-sub-below t c = omega arith
 
--- src/accept.rt:455:5
 accept-table-loop-holds : (t : ℕ) → accept-table-lts.Need-loop-holds (
   read-title-reads.Asked,
   read-title-reads.Learnt,
@@ -357,7 +336,6 @@ accept-table-loop-holds : (t : ℕ) → accept-table-lts.Need-loop-holds (
 ) (accept-table-at t) accept-table.Post accept-table-Inv-loop accept-table-μ-loop
 accept-table-loop-holds t c = ((going-start _ _ _ _ _ _, refl), omega arith)
 
--- src/accept.rt:456:9
 accept-table-accept-line-requires : (t : ℕ) → accept-table-lts.Need-accept-line-requires (
   read-title-reads.Asked,
   read-title-reads.Learnt,
@@ -370,7 +348,6 @@ accept-table-accept-line-requires : (t : ℕ) → accept-table-lts.Need-accept-l
 ) (accept-table-at t) accept-table.Post accept-table-Inv-loop accept-table-μ-loop
 accept-table-accept-line-requires t c κs = (omega (arith, c .before .before .before .before .before .before .before .before .before .pre .0), (c .before .loop-test .taken, c .before .before .loop .inv .1))
 
--- src/accept.rt:458:13
 accept-table-same-length : (t : ℕ) → accept-table-lts.Need-same-length (
   read-title-reads.Asked,
   read-title-reads.Learnt,
@@ -383,7 +360,6 @@ accept-table-same-length : (t : ℕ) → accept-table-lts.Need-same-length (
 ) (accept-table-at t) accept-table.Post accept-table-Inv-loop accept-table-μ-loop
 accept-table-same-length t c = c .before .before .before .before .accept-line .kept .1 .1 .1 .1 .1 .1 .1 .0 ∙ c .before .before .before .before .before .before .before .loop .inv .0 .1
 
--- src/accept.rt:458:13
 accept-table-returns-3 : (t : ℕ) → accept-table-lts.Need-returns-3 (
   read-title-reads.Asked,
   read-title-reads.Learnt,
@@ -396,7 +372,6 @@ accept-table-returns-3 : (t : ℕ) → accept-table-lts.Need-returns-3 (
 ) (accept-table-at t) accept-table.Post accept-table-Inv-loop accept-table-μ-loop
 accept-table-returns-3 t c = λ e. clash e (not-true _ (c .if3 .taken))
 
--- src/accept.rt:460:12
 accept-table-shared-slice-read-if4 : (t : ℕ) → accept-table-lts.Need-shared-slice-read-if4 (
   read-title-reads.Asked,
   read-title-reads.Learnt,
@@ -409,7 +384,6 @@ accept-table-shared-slice-read-if4 : (t : ℕ) → accept-table-lts.Need-shared-
 ) (accept-table-at t) accept-table.Post accept-table-Inv-loop accept-table-μ-loop
 accept-table-shared-slice-read-if4 t c = omega (arith, c .before .before .before .before .before .accept-line .ensures (not-false _ (c .before .if3 .left)) .1)
 
--- src/accept.rt:461:13
 accept-table-same-length-2 : (t : ℕ) → accept-table-lts.Need-same-length-2 (
   read-title-reads.Asked,
   read-title-reads.Learnt,
@@ -422,7 +396,6 @@ accept-table-same-length-2 : (t : ℕ) → accept-table-lts.Need-same-length-2 (
 ) (accept-table-at t) accept-table.Post accept-table-Inv-loop accept-table-μ-loop
 accept-table-same-length-2 t c = c .before .before .before .before .before .before .accept-line .kept .1 .1 .1 .1 .1 .1 .1 .0 ∙ c .before .before .before .before .before .before .before .before .before .loop .inv .0 .1
 
--- src/accept.rt:461:13
 accept-table-returns-4 : (t : ℕ) → accept-table-lts.Need-returns-4 (
   read-title-reads.Asked,
   read-title-reads.Learnt,
@@ -435,7 +408,6 @@ accept-table-returns-4 : (t : ℕ) → accept-table-lts.Need-returns-4 (
 ) (accept-table-at t) accept-table.Post accept-table-Inv-loop accept-table-μ-loop
 accept-table-returns-4 t c = λ e. let o = c .before .before .before .before .before .before .accept-line .ensures e in table-reaches _ _ _ (omega arith) (c .before .before .before .before .before .before .before .before .before .before .before .before .before .read-title .ensures) (c .before .before .before .before .before .before .before .before .before .before .before .if1 .left) (going-last _ _ _ _ (c .before .before .before .before .before .before .before .before .loop-test .taken) (o .0) (o .2) (c .before .before .before .before .before .before .before .before .before .loop .inv .0 .0) (c .if4 .taken))
 
--- src/accept.rt:464:29
 accept-table-add-word-in : (t : ℕ) → accept-table-lts.Need-add-word-in (
   read-title-reads.Asked,
   read-title-reads.Learnt,
@@ -448,7 +420,6 @@ accept-table-add-word-in : (t : ℕ) → accept-table-lts.Need-add-word-in (
 ) (accept-table-at t) accept-table.Post accept-table-Inv-loop accept-table-μ-loop
 accept-table-add-word-in t c = omega (arith, c .before .before .before .before .before .before .accept-line .ensures (not-false _ (c .before .before .if3 .left)) .1)
 
--- src/accept.rt:464:17
 accept-table-word-in-requires : (t : ℕ) → accept-table-lts.Need-word-in-requires (
   read-title-reads.Asked,
   read-title-reads.Learnt,
@@ -461,7 +432,6 @@ accept-table-word-in-requires : (t : ℕ) → accept-table-lts.Need-word-in-requ
 ) (accept-table-at t) accept-table.Post accept-table-Inv-loop accept-table-μ-loop
 accept-table-word-in-requires t c κs = omega (arith, c .before .before .before .before .before .before .accept-line .ensures (not-false _ (c .before .before .if3 .left)) .1, c .if4 .left)
 
--- src/accept.rt:464:13
 accept-table-add-p : (t : ℕ) → accept-table-lts.Need-add-p (
   read-title-reads.Asked,
   read-title-reads.Learnt,
@@ -474,7 +444,6 @@ accept-table-add-p : (t : ℕ) → accept-table-lts.Need-add-p (
 ) (accept-table-at t) accept-table.Post accept-table-Inv-loop accept-table-μ-loop
 accept-table-add-p t c = omega (arith, c .before .before .before .before .before .before .before .accept-line .ensures (not-false _ (c .before .before .before .if3 .left)) .1, c .word-in .ensures .1)
 
--- src/accept.rt:465:13
 accept-table-add-n : (t : ℕ) → accept-table-lts.Need-add-n (
   read-title-reads.Asked,
   read-title-reads.Learnt,
@@ -487,7 +456,6 @@ accept-table-add-n : (t : ℕ) → accept-table-lts.Need-add-n (
 ) (accept-table-at t) accept-table.Post accept-table-Inv-loop accept-table-μ-loop
 accept-table-add-n t c = omega arith
 
--- src/accept.rt:455:5
 accept-table-loop-less : (t : ℕ) → accept-table-lts.Need-loop-less (
   read-title-reads.Asked,
   read-title-reads.Learnt,
@@ -500,7 +468,6 @@ accept-table-loop-less : (t : ℕ) → accept-table-lts.Need-loop-less (
 ) (accept-table-at t) accept-table.Post accept-table-Inv-loop accept-table-μ-loop
 accept-table-loop-less t c = omega arith
 
--- src/accept.rt:455:5
 accept-table-loop-again : (t : ℕ) → accept-table-lts.Need-loop-again (
   read-title-reads.Asked,
   read-title-reads.Learnt,
@@ -513,7 +480,6 @@ accept-table-loop-again : (t : ℕ) → accept-table-lts.Need-loop-again (
 ) (accept-table-at t) accept-table.Post accept-table-Inv-loop accept-table-μ-loop
 accept-table-loop-again t c = let o = c .before .before .before .before .before .before .before .accept-line .ensures (not-false _ (c .before .before .before .if3 .left)) in ((rw (c .word-in .ensures .0) (going-more _ _ _ _ (c .before .before .before .before .before .before .before .before .before .loop-test .taken) (o .0) (o .2) (c .before .before .before .before .before .before .before .before .before .before .loop .inv .0 .0) (omega (arith, c .before .if4 .left))), c .before .before .before .before .before .before .before .accept-line .kept .1 .1 .1 .1 .1 .1 .1 .0 ∙ c .before .before .before .before .before .before .before .before .before .before .loop .inv .0 .1), omega arith)
 
--- src/accept.rt:467:5
 accept-table-doubt-requires-3 : (t : ℕ) → accept-table-lts.Need-doubt-requires-3 (
   read-title-reads.Asked,
   read-title-reads.Learnt,
@@ -526,7 +492,6 @@ accept-table-doubt-requires-3 : (t : ℕ) → accept-table-lts.Need-doubt-requir
 ) (accept-table-at t) accept-table.Post accept-table-Inv-loop accept-table-μ-loop
 accept-table-doubt-requires-3 t c κs = search needs
 
--- src/accept.rt:428:1
 accept-table-same-length-3 : (t : ℕ) → accept-table-lts.Need-same-length-3 (
   read-title-reads.Asked,
   read-title-reads.Learnt,
@@ -539,7 +504,6 @@ accept-table-same-length-3 : (t : ℕ) → accept-table-lts.Need-same-length-3 (
 ) (accept-table-at t) accept-table.Post accept-table-Inv-loop accept-table-μ-loop
 accept-table-same-length-3 t c = c .before .before .loop .inv .0 .1
 
--- src/accept.rt:428:1
 accept-table-returns-5 : (t : ℕ) → accept-table-lts.Need-returns-5 (
   read-title-reads.Asked,
   read-title-reads.Learnt,

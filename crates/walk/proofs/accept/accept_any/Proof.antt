@@ -4,58 +4,40 @@ use borrow.Author.Tests.{not-false}
 use Rattle.field.specs.declared.table.Profile.{Profile}
 use Rattle.walk.proofs.Stood.{clash}
 use Rattle.walk.proofs.Accepting.{any-passes}
-use native.Mathlib.Omega.{arith}
 use borrow.Author.Needs.{needs}
 use Rattle.walk.proofs.accept.accept_any.Statement.{statement}
 use Rattle.walk.proofs.accept.accept_any.Tie as tie
-use Rattle.walk.proofs.accept.accept_any.Reads as reads
-use Rattle.walk.proofs.accept.accept_any.Lts as lts
-use Rattle.cmf.proofs.component.read_component.Reads as read-component-reads
-use Rattle.field.proofs.table.profile_of.Reads as profile-of-reads
-use Rattle.walk.proofs.accept.Stage.doubt.Reads as doubt-reads
-use Rattle.walk.proofs.accept.claim.Reads as claim-reads
 
--- src/accept.rt:172:9
 read-component-requires : tie.Need-read-component-requires
 read-component-requires c κs = search needs
 
--- src/accept.rt:174:9
 doubt-requires : tie.Need-doubt-requires
 doubt-requires c κs = search needs
 
--- src/accept.rt:174:9
 returns : tie.Need-returns
 returns c = λ e. clash e (c .doubt .ensures)
 
--- src/accept.rt:177:9
 doubt-requires-2 : tie.Need-doubt-requires-2
 doubt-requires-2 c κs = search needs
 
--- src/accept.rt:177:9
 returns-2 : tie.Need-returns-2
 returns-2 c = λ e. clash e (c .doubt2 .ensures)
 
--- src/accept.rt:185:9
 profile-of-requires : tie.Need-profile-of-requires
 profile-of-requires c κs = search needs
 
--- src/accept.rt:185:9
 cast-claim : tie.Need-cast-claim
 cast-claim c = search needs
 
--- src/accept.rt:181:9
 claim-requires : tie.Need-claim-requires
 claim-requires c κs = search needs
 
--- src/accept.rt:191:17
 add-t14 : tie.Need-add-t14
 add-t14 c = search needs
 
--- src/accept.rt:168:1
 same-length : tie.Need-same-length
 same-length c = search needs
 
--- src/accept.rt:168:1
 returns-3 : tie.Need-returns-3
 returns-3 c = λ e. any-passes _ _ (c .before .before .before .before .before .before .before .before .before .before .before .before .read-component .ensures) (c .before .before .before .before .before .before .before .before .before .before .if1 .left) (not-false _ (c .before .before .before .before .before .before .before .before .if2 .left)) (c .before .before .before .before .before .before .before .before .before .before .before .before .before .before .before .pre) (ap (λ (x : Profile). x .bytes) (c .before .before .before .before .before .profile-of .ensures)) (c .before .before .before .claim .ensures e)
 

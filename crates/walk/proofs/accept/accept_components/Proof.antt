@@ -9,10 +9,6 @@ use native.Mathlib.Omega.{arith}
 use borrow.Author.Needs.{needs}
 use Rattle.walk.proofs.accept.accept_components.Statement.{statement}
 use Rattle.walk.proofs.accept.accept_components.Tie as tie
-use Rattle.walk.proofs.accept.accept_components.Reads as reads
-use Rattle.walk.proofs.accept.accept_components.Lts as lts
-use Rattle.walk.proofs.accept.Stage.doubt.Reads as doubt-reads
-use Rattle.walk.proofs.accept.accept_component.Reads as accept-component-reads
 
 abbrev Inv-loop : tie.InvT-loop
 Inv-loop image sheet marks₀ v₀ marks v = (Going image sheet v₀ v marks₀ marks) × (length marks ≡ length marks₀)
@@ -20,67 +16,51 @@ Inv-loop image sheet marks₀ v₀ marks v = (Going image sheet v₀ v marks₀ 
 abbrev μ-loop : tie.MeasureT-loop
 μ-loop image sheet marks₀ v₀ marks v = length image - v .at
 
--- src/accept.rt:240:5
 loop-holds : tie.Need-loop-holds Inv-loop μ-loop
 loop-holds c = (going-start _ _ _ _, refl)
 
--- src/accept.rt:241:17
 add-p : tie.Need-add-p Inv-loop μ-loop
 add-p c = omega arith
 
--- src/accept.rt:243:13
 doubt-requires : tie.Need-doubt-requires Inv-loop μ-loop
 doubt-requires c κs = search needs
 
--- src/accept.rt:243:13
 same-length : tie.Need-same-length Inv-loop μ-loop
 same-length c = c .before .before .before .before .before .before .loop .inv .1
 
--- src/accept.rt:243:13
 returns : tie.Need-returns Inv-loop μ-loop
 returns c = λ e. clash e (c .doubt .ensures)
 
--- src/accept.rt:245:9
 accept-component-requires : tie.Need-accept-component-requires Inv-loop μ-loop
 accept-component-requires c κs = (omega arith, refl)
 
--- src/accept.rt:247:13
 same-length-2 : tie.Need-same-length-2 Inv-loop μ-loop
 same-length-2 c = c .before .before .before .before .accept-component .kept .1 .1 .1 .1 .0 ∙ c .before .before .before .before .before .before .before .before .before .before .before .loop .inv .1
 
--- src/accept.rt:247:13
 returns-2 : tie.Need-returns-2 Inv-loop μ-loop
 returns-2 c = λ e. clash e (not-true _ (c .if3 .taken))
 
--- src/accept.rt:249:12
 shared-slice-read-if4 : tie.Need-shared-slice-read-if4 Inv-loop μ-loop
 shared-slice-read-if4 c = omega arith
 
--- src/accept.rt:250:13
 same-length-3 : tie.Need-same-length-3 Inv-loop μ-loop
 same-length-3 c = c .before .before .before .before .before .before .accept-component .kept .1 .1 .1 .1 .0 ∙ c .before .before .before .before .before .before .before .before .before .before .before .before .before .loop .inv .1
 
--- src/accept.rt:250:13
 returns-3 : tie.Need-returns-3 Inv-loop μ-loop
 returns-3 c = λ e. going-last _ (c .before .before .before .before .before .before .accept-component .ensures e .0) (c .before .before .before .before .before .before .accept-component .ensures e .1) (c .if4 .taken) (c .before .before .before .before .before .before .before .before .before .before .before .before .before .loop .inv .0)
 
--- src/accept.rt:240:5
 loop-less : tie.Need-loop-less Inv-loop μ-loop
 loop-less c = let g = c .before .before .before .before .before .before .accept-component .ensures (not-false _ (c .before .before .if3 .left)) in omega (arith, onward _ (g .0) (g .1))
 
--- src/accept.rt:240:5
 loop-again : tie.Need-loop-again Inv-loop μ-loop
 loop-again c = let g = c .before .before .before .before .before .before .accept-component .ensures (not-false _ (c .before .before .if3 .left)) in (going-more _ (g .0) (g .1) (omega (arith, c .if4 .left)) (c .before .before .before .before .before .before .before .before .before .before .before .before .before .loop .inv .0), c .before .before .before .before .before .before .accept-component .kept .1 .1 .1 .1 .0 ∙ c .before .before .before .before .before .before .before .before .before .before .before .before .before .loop .inv .1)
 
--- src/accept.rt:253:5
 doubt-requires-2 : tie.Need-doubt-requires-2 Inv-loop μ-loop
 doubt-requires-2 c κs = search needs
 
--- src/accept.rt:236:1
 same-length-4 : tie.Need-same-length-4 Inv-loop μ-loop
 same-length-4 c = c .before .before .before .loop .inv .1
 
--- src/accept.rt:236:1
 returns-4 : tie.Need-returns-4 Inv-loop μ-loop
 returns-4 c = λ e. clash e (c .doubt2 .ensures)
 

@@ -5,46 +5,31 @@ use native.Mathlib.Omega.{arith}
 use borrow.Author.Needs.{needs}
 use Rattle.walk.proofs.accept.accept_option.Statement.{statement}
 use Rattle.walk.proofs.accept.accept_option.Tie as tie
-use Rattle.walk.proofs.accept.accept_option.Reads as reads
-use Rattle.walk.proofs.accept.accept_option.Lts as lts
-use Rattle.walk.proofs.accept.Stage.doubt.Reads as doubt-reads
-use Rattle.walk.proofs.accept.claim.Reads as claim-reads
-use Rattle.walk.proofs.accept.option_end.Reads as option-end-reads
-use Rattle.laws.proofs.word_in.Reads as word-in-reads
 
--- src/accept.rt:154:9
 option-end-requires : tie.Need-option-end-requires
 option-end-requires c κs = search needs
 
--- src/accept.rt:156:9
 doubt-requires : tie.Need-doubt-requires
 doubt-requires c κs = search needs
 
--- src/accept.rt:156:9
 returns : tie.Need-returns
 returns c = λ e. clash e (c .doubt .ensures)
 
--- src/accept.rt:158:54
 add-word-in : tie.Need-add-word-in
 add-word-in c = search needs
 
--- src/accept.rt:158:42
 word-in-requires : tie.Need-word-in-requires
 word-in-requires c κs = omega (arith, c .before .before .option-end .ensures (omega arith) .0)
 
--- src/accept.rt:158:9
 claim-requires : tie.Need-claim-requires
 claim-requires c κs = search needs
 
--- src/accept.rt:163:17
 add-t11 : tie.Need-add-t11
 add-t11 c = search needs
 
--- src/accept.rt:150:1
 same-length : tie.Need-same-length
 same-length c = search needs
 
--- src/accept.rt:150:1
 returns-2 : tie.Need-returns-2
 returns-2 c = λ e. option-passes _ _ (c .before .before .before .before .before .before .before .option-end .ensures (omega arith) .1) (c .before .before .before .before .word-in .ensures .0) (c .before .before .before .before .before .before .before .before .before .before .pre .1 .1) (c .before .before .before .claim .ensures e)
 

@@ -3,44 +3,31 @@ use native.Mathlib.Omega.{arith}
 use borrow.Author.Needs.{needs}
 use Rattle.walk.proofs.accept.head_end.Statement.{statement}
 use Rattle.walk.proofs.accept.head_end.Tie as tie
-use Rattle.walk.proofs.accept.head_end.Reads as reads
-use Rattle.walk.proofs.accept.head_end.Lts as lts
-use Rattle.walk.proofs.accept.any_end.Reads as any-end-reads
-use Rattle.walk.proofs.accept.plain_end.Reads as plain-end-reads
 
--- src/accept.rt:344:9
 any-end-requires : tie.Need-any-end-requires
 any-end-requires c κs = search needs
 
--- src/accept.rt:344:9
 returns : tie.Need-returns
 returns c = search needs
 
--- src/accept.rt:346:12
 shared-slice-read-if2 : tie.Need-shared-slice-read-if2
 shared-slice-read-if2 c = search needs
 
--- src/accept.rt:347:9
 any-end-requires-2 : tie.Need-any-end-requires-2
 any-end-requires-2 c κs = search needs
 
--- src/accept.rt:347:9
 returns-2 : tie.Need-returns-2
 returns-2 c = search needs
 
--- src/accept.rt:349:8
 shared-slice-read-if3 : tie.Need-shared-slice-read-if3
 shared-slice-read-if3 c = search needs
 
--- src/accept.rt:350:9
 plain-end-requires : tie.Need-plain-end-requires
 plain-end-requires c κs = search needs
 
--- src/accept.rt:350:9
 returns-3 : tie.Need-returns-3
 returns-3 c = λ e. c .plain-end .ensures e _ (omega arith)
 
--- src/accept.rt:339:1
 returns-4 : tie.Need-returns-4
 returns-4 c = λ e. absurd (omega arith)
 

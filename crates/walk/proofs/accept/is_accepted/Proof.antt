@@ -2,36 +2,25 @@
 use mathlib.Core.Path.{sym, _∙_}
 use mathlib.Core.Bool.{false≢true}
 use Rattle.walk.proofs.AcceptingTables.{nothing-refused}
-use native.Mathlib.Omega.{arith}
 use borrow.Author.Needs.{needs}
 use Rattle.walk.proofs.accept.is_accepted.Statement.{statement}
 use Rattle.walk.proofs.accept.is_accepted.Tie as tie
-use Rattle.walk.proofs.accept.is_accepted.Reads as reads
-use Rattle.walk.proofs.accept.is_accepted.Lts as lts
-use Rattle.walk.proofs.accept.accept_table.Reads as accept-table-reads
-use Rattle.walk.proofs.check.prolog_code.Reads as prolog-code-reads
 
--- src/accept.rt:474:9
 prolog-code-requires : tie.Need-prolog-code-requires
 prolog-code-requires c κs = search needs
 
--- src/accept.rt:476:9
 returns : tie.Need-returns
 returns c = λ e. absurd (false≢true e)
 
--- src/accept.rt:479:9
 returns-2 : tie.Need-returns-2
 returns-2 c = λ e. absurd (false≢true e)
 
--- src/accept.rt:494:9
 slice-aggregate-accept-table : tie.Need-slice-aggregate-accept-table
 slice-aggregate-accept-table c = search needs
 
--- src/accept.rt:488:9
 accept-table-requires : tie.Need-accept-table-requires
 accept-table-requires c κs = search needs
 
--- src/accept.rt:471:1
 returns-3 : tie.Need-returns-3
 returns-3 c = λ e. nothing-refused _ _ _ _ _ (c .before .before .before .if2 .left) (sym (c .before .before .before .before .before .prolog-code .ensures) ∙ c .before .before .before .before .if1 .left) (c .before .accept-table .ensures e)
 

@@ -7,9 +7,6 @@ use native.Mathlib.Omega.{arith}
 use borrow.Author.Needs.{needs}
 use Rattle.walk.proofs.accept.is_filled.Statement.{statement}
 use Rattle.walk.proofs.accept.is_filled.Tie as tie
-use Rattle.walk.proofs.accept.is_filled.Reads as reads
-use Rattle.walk.proofs.accept.is_filled.Lts as lts
-use Rattle.walk.proofs.accept.longer.Reads as longer-reads
 
 abbrev Inv-loop : tie.InvT-loop
 Inv-loop image from end count longest at₀ seen₀ most₀ at seen most = (Filling image from end count at seen most) × (seen ≤ at)
@@ -17,51 +14,39 @@ Inv-loop image from end count longest at₀ seen₀ most₀ at seen most = (Fill
 abbrev μ-loop : tie.MeasureT-loop
 μ-loop image from end count longest at₀ seen₀ most₀ at seen most = end - at
 
--- src/accept.rt:112:5
 loop-holds : tie.Need-loop-holds Inv-loop μ-loop
 loop-holds c = (filling-start _ _ _ _, omega arith)
 
--- src/accept.rt:113:17
 shared-slice-read-n : tie.Need-shared-slice-read-n Inv-loop μ-loop
 shared-slice-read-n c = omega arith
 
--- src/accept.rt:113:17
 cast-n : tie.Need-cast-n Inv-loop μ-loop
 cast-n c = omega (arith, c .shared-slice-known2 .given (c .before .before .loop .at))
 
--- src/accept.rt:114:14
 add-at : tie.Need-add-at Inv-loop μ-loop
 add-at c = omega arith
 
--- src/accept.rt:114:14
 add-at-2 : tie.Need-add-at-2 Inv-loop μ-loop
 add-at-2 c = omega (arith, c .shared-slice-known2 .given (c .before .before .loop .at))
 
--- src/accept.rt:115:9
 longer-requires : tie.Need-longer-requires Inv-loop μ-loop
 longer-requires c κs = search needs
 
--- src/accept.rt:116:16
 add-seen : tie.Need-add-seen Inv-loop μ-loop
 add-seen c = omega (arith, c .before .before .before .loop .inv .1)
 
--- src/accept.rt:112:5
 loop-less : tie.Need-loop-less Inv-loop μ-loop
 loop-less c = omega arith
 
--- src/accept.rt:112:5
 loop-again : tie.Need-loop-again Inv-loop μ-loop
 loop-again c = (filling-next (c .before .before .before .before .before .args .image .now) (c .before .before .before .before .before .args .from) (c .before .before .before .before .before .args .end) (c .before .before .before .before .before .args .count) (c .before .before .before .loop .at) (c .before .before .before .loop .seen) (c .before .before .before .loop .most) (c .longer .result) (c .before .before .before .before .before .pre) (c .longer .ensures) (c .before .before .before .loop .inv .0), omega (arith, c .before .before .before .loop .inv .1))
 
--- src/accept.rt:119:9
 returns : tie.Need-returns Inv-loop μ-loop
 returns c = λ e. absurd (false≢true e)
 
--- src/accept.rt:122:9
 returns-2 : tie.Need-returns-2 Inv-loop μ-loop
 returns-2 c = λ e. absurd (false≢true e)
 
--- src/accept.rt:105:1
 returns-3 : tie.Need-returns-3 Inv-loop μ-loop
 returns-3 c = λ e. filled _ _ _ _ _ _ _ _ (omega arith) (omega arith) (eqb-true _ _ e) (c .before .before .before .loop .inv .0)
 

@@ -1,5 +1,5 @@
 -- The first mark and the pointer back, by the tag.
-use mathlib.Core.Path.{refl, sym, _∙_}
+use mathlib.Core.Path.{sym, _∙_}
 use mathlib.Core.Bool.{false≢true}
 use borrow.Author.Tests.{eqb-true}
 use Rattle.walk.proofs.Pieces.{linked-first, linked-later}
@@ -7,51 +7,37 @@ use native.Mathlib.Omega.{arith}
 use borrow.Author.Needs.{needs}
 use Rattle.walk.proofs.accept.is_linked.Statement.{statement}
 use Rattle.walk.proofs.accept.is_linked.Tie as tie
-use Rattle.walk.proofs.accept.is_linked.Reads as reads
-use Rattle.walk.proofs.accept.is_linked.Lts as lts
-use Rattle.laws.proofs.word_in.Reads as word-in-reads
 
--- src/accept.rt:276:15
 shared-slice-read-tag : tie.Need-shared-slice-read-tag
 shared-slice-read-tag c = search needs
 
--- src/accept.rt:276:15
 cast-tag : tie.Need-cast-tag
 cast-tag c = omega (arith, c .shared-slice-known2 .given (c .before .before .args .p))
 
--- src/accept.rt:278:9
 returns : tie.Need-returns
 returns c = λ e. rw (c .if1 .taken) (linked-first _ _ _ (eqb-true _ 1 e))
 
--- src/accept.rt:281:9
 returns-2 : tie.Need-returns-2
 returns-2 c = λ e. absurd (false≢true e)
 
--- src/accept.rt:283:17
 add-word-in : tie.Need-add-word-in
 add-word-in c = search needs
 
--- src/accept.rt:283:30
 sub-word-in : tie.Need-sub-word-in
 sub-word-in c = search needs
 
--- src/accept.rt:283:25
 mul-word-in : tie.Need-mul-word-in
 mul-word-in c = search needs
 
--- src/accept.rt:283:17
 add-word-in-2 : tie.Need-add-word-in-2
 add-word-in-2 c = search needs
 
--- src/accept.rt:283:5
 word-in-requires : tie.Need-word-in-requires
 word-in-requires c κs = search needs
 
--- src/accept.rt:283:51
 sub-result : tie.Need-sub-result
 sub-result c = search needs
 
--- src/accept.rt:272:1
 returns-3 : tie.Need-returns-3
 returns-3 c = λ e. linked-later _ _ _ _ (c .before .before .if1 .left) (c .before .if2 .left) (c .before .before .before .before .before .pre .1) (sym (c .word-in .ensures .0) ∙ eqb-true _ _ e)
 

@@ -6,79 +6,58 @@ use native.Mathlib.Omega.{arith}
 use borrow.Author.Needs.{needs}
 use Rattle.walk.proofs.accept.option_end.Statement.{statement}
 use Rattle.walk.proofs.accept.option_end.Tie as tie
-use Rattle.walk.proofs.accept.option_end.Reads as reads
-use Rattle.walk.proofs.accept.option_end.Lts as lts
-use Rattle.walk.proofs.accept.is_filled.Reads as is-filled-reads
 
--- src/accept.rt:132:22
 add-if1 : tie.Need-add-if1
 add-if1 c = search needs
 
--- src/accept.rt:133:9
 returns : tie.Need-returns
 returns c = λ e. absurd (omega arith)
 
--- src/accept.rt:135:23
 add-items : tie.Need-add-items
 add-items c = search needs
 
--- src/accept.rt:135:17
 shared-slice-read-items : tie.Need-shared-slice-read-items
 shared-slice-read-items c = search needs
 
--- src/accept.rt:136:23
 add-if2 : tie.Need-add-if2
 add-if2 c = search needs
 
--- src/accept.rt:136:17
 shared-slice-read-if2 : tie.Need-shared-slice-read-if2
 shared-slice-read-if2 c = search needs
 
--- src/accept.rt:137:9
 returns-2 : tie.Need-returns-2
 returns-2 c = λ e. absurd (omega arith)
 
--- src/accept.rt:139:26
 add-end : tie.Need-add-end
 add-end c = search needs
 
--- src/accept.rt:139:20
 shared-slice-read-end : tie.Need-shared-slice-read-end
 shared-slice-read-end c = search needs
 
--- src/accept.rt:139:20
 cast-end : tie.Need-cast-end
 cast-end c = omega (arith, c .shared-slice-known4 .given (c .before .before .before .before .before .before .args .at + 6))
 
--- src/accept.rt:139:15
 add-end-2 : tie.Need-add-end-2
 add-end-2 c = omega (arith, c .shared-slice-known4 .given (c .before .before .before .before .before .before .args .at + 6))
 
--- src/accept.rt:141:9
 returns-3 : tie.Need-returns-3
 returns-3 c = λ e. absurd (omega arith)
 
--- src/accept.rt:143:35
 add-is-filled : tie.Need-add-is-filled
 add-is-filled c = search needs
 
--- src/accept.rt:143:62
 add-is-filled-2 : tie.Need-add-is-filled-2
 add-is-filled-2 c = search needs
 
--- src/accept.rt:143:56
 shared-slice-read-is-filled : tie.Need-shared-slice-read-is-filled
 shared-slice-read-is-filled c = search needs
 
--- src/accept.rt:143:9
 is-filled-requires : tie.Need-is-filled-requires
 is-filled-requires c κs = search needs
 
--- src/accept.rt:145:9
 returns-4 : tie.Need-returns-4
 returns-4 c = λ _. (omega arith, option-is _ _ _ (c .before .before .before .before .before .before .before .before .before .before .pre .1) (omega arith) (omega arith) refl (c .before .is-filled .ensures (c .if4 .taken)))
 
--- src/accept.rt:128:1
 returns-5 : tie.Need-returns-5
 returns-5 c = λ e. absurd (omega arith)
 

@@ -4,62 +4,46 @@ use native.Mathlib.Omega.{arith}
 use borrow.Author.Needs.{needs}
 use Rattle.walk.proofs.accept.options_end.Statement.{statement}
 use Rattle.walk.proofs.accept.options_end.Tie as tie
-use Rattle.walk.proofs.accept.options_end.Reads as reads
-use Rattle.walk.proofs.accept.options_end.Lts as lts
 
--- src/accept.rt:309:15
 shared-slice-read-tag : tie.Need-shared-slice-read-tag
 shared-slice-read-tag c = search needs
 
--- src/accept.rt:309:15
 cast-tag : tie.Need-cast-tag
 cast-tag c = omega (arith, c .shared-slice-known .given (c .before .args .p))
 
--- src/accept.rt:310:5
 add-result : tie.Need-add-result
 add-result c = search needs
 
--- src/accept.rt:310:18
 sub-result : tie.Need-sub-result
 sub-result c = search needs
 
--- src/accept.rt:310:13
 mul-result : tie.Need-mul-result
 mul-result c = search needs
 
--- src/accept.rt:310:5
 add-result-2 : tie.Need-add-result-2
 add-result-2 c = search needs
 
--- src/accept.rt:310:42
 sub-result-2 : tie.Need-sub-result-2
 sub-result-2 c = search needs
 
--- src/accept.rt:310:37
 mul-result-2 : tie.Need-mul-result-2
 mul-result-2 c = search needs
 
--- src/accept.rt:310:5
 add-result-3 : tie.Need-add-result-3
 add-result-3 c = search needs
 
--- src/accept.rt:310:57
 mul-result-3 : tie.Need-mul-result-3
 mul-result-3 c = search needs
 
--- src/accept.rt:310:5
 add-result-4 : tie.Need-add-result-4
 add-result-4 c = search needs
 
--- src/accept.rt:310:77
 mul-result-4 : tie.Need-mul-result-4
 mul-result-4 c = search needs
 
--- src/accept.rt:310:5
 add-result-5 : tie.Need-add-result-5
 add-result-5 c = search needs
 
--- src/accept.rt:305:1
 returns : tie.Need-returns
 returns c = (options-is (c .before .args .image .now) (c .before .args .p), omega arith)
 

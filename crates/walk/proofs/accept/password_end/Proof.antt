@@ -6,43 +6,31 @@ use native.Mathlib.Omega.{arith}
 use borrow.Author.Needs.{needs}
 use Rattle.walk.proofs.accept.password_end.Statement.{statement}
 use Rattle.walk.proofs.accept.password_end.Tie as tie
-use Rattle.walk.proofs.accept.password_end.Reads as reads
-use Rattle.walk.proofs.accept.password_end.Lts as lts
-use Rattle.cmf.proofs.text.password_fits.Reads as password-fits-reads
 
--- src/accept.rt:291:9
 returns : tie.Need-returns
 returns c = search needs
 
--- src/accept.rt:293:15
 add-end : tie.Need-add-end
 add-end c = search needs
 
--- src/accept.rt:293:24
 shared-slice-read-end : tie.Need-shared-slice-read-end
 shared-slice-read-end c = search needs
 
--- src/accept.rt:293:24
 cast-end : tie.Need-cast-end
 cast-end c = omega (arith, c .shared-slice-known2 .given (c .before .before .before .args .at))
 
--- src/accept.rt:293:15
 add-end-2 : tie.Need-add-end-2
 add-end-2 c = omega (arith, c .shared-slice-known2 .given (c .before .before .before .args .at))
 
--- src/accept.rt:295:9
 returns-2 : tie.Need-returns-2
 returns-2 c = search needs
 
--- src/accept.rt:297:9
 password-fits-requires : tie.Need-password-fits-requires
 password-fits-requires c κs = search needs
 
--- src/accept.rt:299:9
 returns-3 : tie.Need-returns-3
 returns-3 c = λ _. (record { ends = refl; inside = omega arith }, fit-digits _ _ (via (c .before .password-fits .ensures) (c .if3 .taken)))
 
--- src/accept.rt:287:1
 returns-4 : tie.Need-returns-4
 returns-4 c = search needs
 

@@ -5,47 +5,34 @@ use native.Mathlib.Omega.{arith}
 use borrow.Author.Needs.{needs}
 use Rattle.walk.proofs.accept.plain_end.Statement.{statement}
 use Rattle.walk.proofs.accept.plain_end.Tie as tie
-use Rattle.walk.proofs.accept.plain_end.Reads as reads
-use Rattle.walk.proofs.accept.plain_end.Lts as lts
-use Rattle.laws.proofs.word_in.Reads as word-in-reads
 
--- src/accept.rt:261:15
 add-end : tie.Need-add-end
 add-end c = search needs
 
--- src/accept.rt:261:23
 shared-slice-read-end : tie.Need-shared-slice-read-end
 shared-slice-read-end c = search needs
 
--- src/accept.rt:261:23
 cast-end : tie.Need-cast-end
 cast-end c = search needs
 
--- src/accept.rt:261:15
 sub-end : tie.Need-sub-end
 sub-end c = search needs
 
--- src/accept.rt:263:9
 returns : tie.Need-returns
 returns c = λ e. absurd (omega arith)
 
--- src/accept.rt:265:20
 sub-word-in : tie.Need-sub-word-in
 sub-word-in c = search needs
 
--- src/accept.rt:265:8
 word-in-requires : tie.Need-word-in-requires
 word-in-requires c κs = search needs
 
--- src/accept.rt:265:32
 sub-if2 : tie.Need-sub-if2
 sub-if2 c = search needs
 
--- src/accept.rt:266:9
 returns-2 : tie.Need-returns-2
 returns-2 c = λ _ n z. plain-is _ n _ _ _ z (c .before .before .before .before .before .pre .1 .1 .0) (c .before .before .before .before .before .pre .1 .1 .1) refl (omega arith) (c .before .before .before .before .before .pre .1 .0) (sym (c .before .word-in .ensures .0) ∙ c .if2 .taken)
 
--- src/accept.rt:257:1
 returns-3 : tie.Need-returns-3
 returns-3 c = λ e. absurd (omega arith)
 

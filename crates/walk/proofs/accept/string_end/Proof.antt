@@ -6,42 +6,31 @@ use native.Mathlib.Omega.{arith}
 use borrow.Author.Needs.{needs}
 use Rattle.walk.proofs.accept.string_end.Statement.{statement}
 use Rattle.walk.proofs.accept.string_end.Tie as tie
-use Rattle.walk.proofs.accept.string_end.Reads as reads
-use Rattle.walk.proofs.accept.string_end.Lts as lts
 
--- src/accept.rt:88:23
 add-if1 : tie.Need-add-if1
 add-if1 c = search needs
 
--- src/accept.rt:89:9
 returns : tie.Need-returns
 returns c = λ e. absurd (omega arith)
 
--- src/accept.rt:91:15
 add-end : tie.Need-add-end
 add-end c = search needs
 
--- src/accept.rt:91:30
 add-end-2 : tie.Need-add-end-2
 add-end-2 c = search needs
 
--- src/accept.rt:91:24
 shared-slice-read-end : tie.Need-shared-slice-read-end
 shared-slice-read-end c = search needs
 
--- src/accept.rt:91:24
 cast-end : tie.Need-cast-end
 cast-end c = omega (arith, c .shared-slice-known .given (c .before .before .args .at + 1))
 
--- src/accept.rt:91:15
 add-end-3 : tie.Need-add-end-3
 add-end-3 c = omega (arith, c .shared-slice-known .given (c .before .before .args .at + 1))
 
--- src/accept.rt:93:9
 returns-2 : tie.Need-returns-2
 returns-2 c = λ e. absurd (omega arith)
 
--- src/accept.rt:84:1
 returns-3 : tie.Need-returns-3
 returns-3 c = λ _. string-is _ _ _ (c .before .before .before .pre .1) refl (omega arith)
 

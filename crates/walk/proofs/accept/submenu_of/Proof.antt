@@ -4,63 +4,46 @@ use native.Mathlib.Omega.{arith}
 use borrow.Author.Needs.{needs}
 use Rattle.walk.proofs.accept.submenu_of.Statement.{statement}
 use Rattle.walk.proofs.accept.submenu_of.Tie as tie
-use Rattle.walk.proofs.accept.submenu_of.Reads as reads
-use Rattle.walk.proofs.accept.submenu_of.Lts as lts
-use Rattle.laws.proofs.word_in.Reads as word-in-reads
 
--- src/accept.rt:382:15
 shared-slice-read-tag : tie.Need-shared-slice-read-tag
 shared-slice-read-tag c = search needs
 
--- src/accept.rt:382:15
 cast-tag : tie.Need-cast-tag
 cast-tag c = omega (arith, c .shared-slice-known2 .given (c .before .before .args .p))
 
--- src/accept.rt:383:14
 add-at : tie.Need-add-at
 add-at c = search needs
 
--- src/accept.rt:383:27
 sub-at : tie.Need-sub-at
 sub-at c = search needs
 
--- src/accept.rt:383:22
 mul-at : tie.Need-mul-at
 mul-at c = search needs
 
--- src/accept.rt:383:14
 add-at-2 : tie.Need-add-at-2
 add-at-2 c = search needs
 
--- src/accept.rt:383:51
 sub-at-2 : tie.Need-sub-at-2
 sub-at-2 c = search needs
 
--- src/accept.rt:383:46
 mul-at-2 : tie.Need-mul-at-2
 mul-at-2 c = search needs
 
--- src/accept.rt:383:14
 add-at-3 : tie.Need-add-at-3
 add-at-3 c = search needs
 
--- src/accept.rt:383:66
 mul-at-3 : tie.Need-mul-at-3
 mul-at-3 c = search needs
 
--- src/accept.rt:383:14
 add-at-4 : tie.Need-add-at-4
 add-at-4 c = search needs
 
--- src/accept.rt:384:21
 word-in-requires : tie.Need-word-in-requires
 word-in-requires c κs = search needs
 
--- src/accept.rt:384:5
 add-result : tie.Need-add-result
 add-result c = search needs
 
--- src/accept.rt:378:1
 returns : tie.Need-returns
 returns c = rw (c .word-in .ensures .0) (submenu-is (c .before .before .before .args .image .now) (c .before .before .before .args .p))
 
