@@ -3,6 +3,7 @@ ghost use mathlib.Core.Path.{_≡_};
 ghost use mathlib.Core.List.{[], _∷_, _++_};
 ghost use Prim.Native.Nat.{_-_};
 ghost use lib.ListN.{getD};
+ghost use Rattle.field.specs.Cells.{cellsOf, workOf};
 ghost use Rattle.picture.specs.Row.{rowText, Behind};
 ghost use Rattle.picture.specs.Texts.{digitChar, signChar, digitCells, numeralText, decimal, plain, countText, alignedRight, paddedRight, timeText, yearCells, dateText, triggerText, cellsText, widthOf, fieldText, visiting, componentText};
 ghost use Rattle.cmf.specs.Readers.{textBytes, itemPlace};
@@ -198,6 +199,30 @@ impl Row {
         }
     }
 
+    // What the cells of a number show.
+    fn in_cells(self, image: &[u8], place: usize, kind: Kind, x: u32) -> Self
+        ensures { λ r. ⌜ Behind (rowText self) (cellsText (now (image .entry)) place kind (workOf (cellsOf kind x) .cells)) (rowText r) ⌝ }
+    {
+        let shown = Work::showing(kind, x);
+        let cells = shown.cells;
+        self.cells(image, place, kind, &cells)
+    }
+
+    // The same; for an option, which has one cell, and a trigger none are made.
+    fn in_field(self, image: &[u8], place: usize, kind: Kind, x: u32) -> Self
+        ensures { λ r. ⌜ Behind (rowText self) (cellsText (now (image .entry)) place kind (workOf (cellsOf kind x) .cells)) (rowText r) ⌝ }
+    {
+        match kind {
+            Kind::Integer(_) => self.in_cells(image, place, kind, x),
+            Kind::Counter(_) => self.in_cells(image, place, kind, x),
+            Kind::Time(_) => self.in_cells(image, place, kind, x),
+            Kind::Date(_) => self.in_cells(image, place, kind, x),
+            Kind::Switch(_) => self.in_cells(image, place, kind, x),
+            Kind::Option { items: _, longest } => self.item(image, place, x as u64, longest),
+            Kind::Trigger => self.trigger(),
+        }
+    }
+
     // What a field shows outside a visit.
     fn field(self, image: &[u8], sheet: &[u8], place: usize, field: Field) -> Self
         ensures { λ r. ⌜ Behind (rowText self) (fieldText (now (image .entry)) (now (sheet .entry)) place field) (rowText r) ⌝ }
@@ -206,9 +231,7 @@ impl Row {
         let x = load(sheet, field.sheet, profile_of(kind).bytes).number();
         let fits = in_range(kind, x);
         if fits {
-            let shown = Work::showing(kind, x);
-            let cells = shown.cells;
-            return self.cells(image, place, kind, &cells);
+            return self.in_field(image, place, kind, x);
         }
         self.repeat(b'#', width_of(kind))
     }

@@ -1,4 +1,5 @@
 -- The sheet's value, or '#'.
+use mathlib.Core.Path.{refl}
 use Rattle.picture.proofs.Texting.{number-is, field-in, field-out}
 use borrow.Author.Needs.{needs}
 use Rattle.picture.proofs.row.Row.field.Statement.{statement}
@@ -16,17 +17,11 @@ number-requires c κs = search needs
 in-range-requires : tie.Need-in-range-requires
 in-range-requires c κs = search needs
 
-showing-requires : tie.Need-showing-requires
-showing-requires c κs = search needs
-
-slice-aggregate-cells : tie.Need-slice-aggregate-cells
-slice-aggregate-cells c = search needs
-
-cells-requires : tie.Need-cells-requires
-cells-requires c κs = search needs
+in-field-requires : tie.Need-in-field-requires
+in-field-requires c κs = search needs
 
 returns : tie.Need-returns
-returns c = field-in _ _ _ (c .before .before .before .before .before .before .before .before .before .before .before .args .field) _ _ _ (number-is _ (c .before .before .before .before .before .before .before .before .before .before .before .args .field) _ _ _ (c .before .before .before .before .before .before .before .before .profile-of .ensures) (c .before .before .before .before .before .before .before .load .ensures) (c .before .before .before .before .before .before .number .ensures)) (c .before .before .before .before .before .in-range .ensures) (c .before .before .before .before .if1 .taken) (c .before .before .before .showing .ensures) (c .cells3 .ensures)
+returns c = field-in _ _ _ (c .before .before .before .before .before .before .before .before .args .field) _ _ _ (number-is _ (c .before .before .before .before .before .before .before .before .args .field) _ _ _ (c .before .before .before .before .before .profile-of .ensures) (c .before .before .before .before .load .ensures) (c .before .before .before .number .ensures)) (c .before .before .in-range .ensures) (c .before .if1 .taken) refl (c .in-field .ensures)
 
 width-of-requires : tie.Need-width-of-requires
 width-of-requires c κs = search needs
@@ -45,9 +40,7 @@ field-spec =
     load-requires
     number-requires
     in-range-requires
-    showing-requires
-    slice-aggregate-cells
-    cells-requires
+    in-field-requires
     returns
     width-of-requires
     repeat-requires
