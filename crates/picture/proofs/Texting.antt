@@ -1,13 +1,14 @@
 -- One turn of the loop over digit cells, and the texts of kinds put together from their parts.
 use Prim.Native.Nat.{ℕ, zero, suc, _+_, _-_, _/_, _%_, _≤_, _<_}
-use mathlib.Core.Path.{_≡_, refl, sym, ap, _∙_}
+use mathlib.Core.Path.{_≡_, refl, sym, _∙_}
 use mathlib.Core.Bool.{Bool, true, false}
-use mathlib.Core.List.{List, [], _∷_, _++_, append-nil}
+use mathlib.Core.List.{List, [], _∷_, _++_, append-nil, append-assoc}
 use native.Mathlib.Omega.{arith}
-use lib.ListN.{length, getD, replicate}
-use lib.ListN.{length-append, length-replicate}
-use Rattle.laws.specs.Choice.{if_then_else_, _=?_, _<?_}
-use Rattle.laws.proofs.Cases.{if-eq, if-ne, if-lt, if-ge, if-true, if-false}
+use lib.ListN.{length, getD, set, take, drop, replicate}
+use lib.ListN.{length-append}
+use Rattle.laws.specs.Choice.{if_then_else_}
+use Rattle.laws.proofs.Cases.{if-eq, if-ne, if-lt, if-ge, if-true, if-false, if-max}
+use Rattle.laws.proofs.Lists.{drop-set-here}
 use Rattle.field.specs.Settings.{places}
 use Rattle.field.specs.Table.{profileOf}
 use Rattle.field.specs.Values.{numberOf, valueAt}
@@ -23,7 +24,7 @@ use Rattle.session.specs.declared.session.Session.{Session}
 use Rattle.session.specs.Fits.{mostColumns}
 use Rattle.session.specs.Passwords.{digit0}
 use Rattle.picture.specs.Row.{kept, Behind}
-use Rattle.picture.specs.Texts.{blank, dash, colon, digitChar, signChar, digitCells, numeralText, decimal, countText, alignedRight, paddedRight, timeText, dateText, cellsText, widthOf, hash, sheetNumber, fieldText, visiting, componentText}
+use Rattle.picture.specs.Texts.{blank, dash, colon, digitChar, signChar, digitCells, numeralText, decimal, countText, alignedRight, paddedRight, timeText, yearCells, cellsText, widthOf, hash, sheetNumber, fieldText, visiting, componentText}
 use Rattle.picture.proofs.Writing.{behind, same, push-turn, row-done}
 
 -- the next digit cell
@@ -39,18 +40,23 @@ pub digits-done : (x cs : List ℕ) (at left : ℕ) → length x ≤ mostColumns
 unfolding digitCells
 digits-done x cs at left l h = let z : left ≡ 0 = omega arith in rw z (row-done x l)
 
--- a number's digits are those of its tenth, and the last
-pub decimal-turn : {x y z : List ℕ} (n v b : ℕ) → (n ≡ 0 → ⊥) → b ≡ digit0 + v % 10 → Behind x (decimal (n - 1) (v / 10)) y → Behind y (b ∷ []) z
-    → Behind x (decimal n v) z
-unfolding decimal
-decimal-turn zero v b h e f g = absurd (h refl)
-decimal-turn (suc n) v b h e f g =
-    let a : suc n - 1 ≡ n = omega arith in
-    behind (rw a at f) (rw e at g)
+-- the digits of a number from the last on: those that are left, and those put down so far
+pub decimal-start : (n x : ℕ) (ds : List ℕ) → decimal n x ≡ decimal n x ++ take (n - n) (drop n ds)
+decimal-start n x ds = let z : n - n ≡ 0 = omega arith in rw (z, append-nil)
 
-pub decimal-done : (x : List ℕ) (n v : ℕ) → length x ≤ mostColumns → n ≡ 0 → Behind x (decimal n v) x
+pub decimal-next : (k n rest : ℕ) (ds t : List ℕ) → 1 ≤ k → k ≤ n → k - 1 < length ds → t ≡ decimal k rest ++ take (n - k) (drop k ds)
+    → t ≡ decimal (k - 1) (rest / 10) ++ take (n - (k - 1)) (drop (k - 1) (set ds (k - 1) (digit0 + rest % 10)))
 unfolding decimal
-decimal-done x n v l h = record { is = rw h (row-done x l) }
+decimal-next zero n rest ds t a b l e = absurd (omega arith)
+decimal-next (suc k) n rest ds t a b l e =
+    let z : suc k - 1 ≡ k = omega arith in
+    let m : n - k ≡ suc (n - suc k) = omega arith in
+    rw (z, m, drop-set-here ds k (digit0 + rest % 10) (omega arith)) (e ∙ append-assoc (decimal k (rest / 10)) ((digit0 + rest % 10) ∷ []) (take (n - suc k) (drop (suc k) ds)))
+
+pub decimal-done : (k n rest : ℕ) (ds t : List ℕ) → k ≡ 0 → t ≡ decimal k rest ++ take (n - k) (drop k ds) → take n ds ≡ t
+unfolding decimal
+decimal-done zero n rest ds t z e = let q : n - 0 ≡ n = omega arith in sym (e ∙ rw q refl)
+decimal-done (suc k) n rest ds t z e = absurd (omega arith)
 
 pub length-decimal : (n v : ℕ) → length (decimal n v) ≡ n
 unfolding decimal
@@ -143,3 +149,8 @@ module _ {x z : List ℕ} (im sheet : List ℕ) (s : Session) (p : ℕ) (c : Com
   pub shown-string : (t : List ℕ) → c .holds ≡ false → t ≡ textBytes im (p + 1) → Behind x t z → Behind x (componentText im sheet s p c) z
   unfolding componentText
   shown-string t h e k = same (e ∙ sym (if-false _ _ h)) k
+
+-- a year has four digits at most
+pub year-few : (long : Bool) → yearCells long ≤ 5
+unfolding yearCells
+year-few long = if-max long {x = 4} {y = 2} (omega arith) (omega arith)

@@ -1,7 +1,7 @@
 // What a component shows: the text of each kind, put behind what a row has.
 ghost use mathlib.Core.Path.{_≡_};
 ghost use mathlib.Core.List.{[], _∷_, _++_};
-ghost use Prim.Native.Nat.{_-_};
+ghost use Prim.Native.Nat.{_-_, _≤_};
 ghost use lib.ListN.{getD};
 ghost use Rattle.field.specs.Cells.{cellsOf, workOf};
 ghost use Rattle.picture.specs.Row.{rowText, Behind};
@@ -114,14 +114,21 @@ impl Row {
             .digits(cells, 1, n.digits)
     }
 
-    // The count lowest digits of a number.
+    // The count lowest digits of a number, at most five; put together first, so that the row is written once.
     fn decimal(self, count: u8, x: u64) -> Self
+        requires { ⌜ count ≤ 5 ⌝ }
         ensures { λ r. ⌜ Behind (rowText self) (decimal count x) (rowText r) ⌝ }
     {
-        if count == 0 {
-            return self;
+        let mut digits = [0u8; 5];
+        let n = count as usize;
+        let mut k = n;
+        let mut rest = x;
+        while 0 < k {
+            k = k - 1;
+            digits[k] = b'0' + (rest % 10) as u8;
+            rest = rest / 10;
         }
-        self.decimal(count - 1, x / 10).push(b'0' + (x % 10) as u8)
+        self.push_all(&digits[..n])
     }
 
     // A counter's number, given with 32,768 added, right aligned.
@@ -260,22 +267,6 @@ impl Row {
             return self.field(image, sheet, place, field);
         }
         self.push_all(string_bytes(image, place))
-    }
-
-    // What the component at a place shows.
-    pub fn component(
-        self,
-        image: &[u8],
-        sheet: &[u8],
-        session: Session,
-        c: Component,
-        place: usize,
-    ) -> Self
-        ensures { λ r. ⌜ Behind (rowText self) (componentText (now (image .entry)) (now (sheet .entry)) session place c) (rowText r) ⌝ }
-    {
-        let work = session.work;
-        let cells = work.cells;
-        self.shown(image, sheet, session, &cells, c, place)
     }
 }
 

@@ -1,4 +1,5 @@
 -- Part after part.
+use Rattle.picture.proofs.Texting.{year-few}
 use mathlib.Core.Path.{refl}
 use Rattle.picture.specs.Texts.{dateText}
 use Rattle.picture.proofs.Writing.{behind}
@@ -14,7 +15,7 @@ cell-at-requires : tie.Need-cell-at-requires
 cell-at-requires c κs = search needs
 
 decimal-requires : tie.Need-decimal-requires
-decimal-requires c κs = search needs
+decimal-requires c κs = rw (c .before .year-cells .ensures) (year-few _)
 
 push-requires : tie.Need-push-requires
 push-requires c κs = search needs
