@@ -49,15 +49,14 @@ line-row {u = u} {v = v} {z = z} {d = d} {m = m} {e = e} w a b q r s f g =
     let i : v ≡ m ∷ fit blank (w - 2) d = o ∙ rw k in
     whole z (m ∷ (fit blank (w - 2) d ++ (e ∷ []))) (omega (arith, length-append (fit blank (w - 2) d) (e ∷ []), length-fit blank (w - 2) d)) (rw i at (g .is))
 
-title-row : {x y u v r z t ns : List ℕ} {e m : ℕ} (w : ℕ) → 4 ≤ w → w ≤ mostColumns → length ns ≡ 2 → x ≡ [] → Behind x t y → u ≡ kept (fit blank (w - 4) y)
-    → Behind u (e ∷ []) v → Behind v ns r → Behind r (m ∷ []) z → z ≡ fit blank (w - 4) t ++ (e ∷ (ns ++ (m ∷ [])))
-title-row {y = y} {u = u} {z = z} {t = t} {ns = ns} {e = e} {m = m} w a b n q f g h k l =
+title-row : {x y u z t : List ℕ} {e : ℕ} (ns : List ℕ) (m w : ℕ) → 4 ≤ w → w ≤ mostColumns → length ns ≡ 2 → x ≡ [] → Behind x t y → u ≡ kept (fit blank (w - 4) y)
+    → Behind u (e ∷ (ns ++ (m ∷ []))) z → z ≡ fit blank (w - 4) t ++ (e ∷ (ns ++ (m ∷ [])))
+title-row {y = y} {u = u} {z = z} {t = t} {e = e} ns m w a b n q f g h =
     let o : y ≡ kept t = rw q at (f .is) in
     let i : u ≡ fit blank (w - 4) t = g ∙ rw o (fit-kept (w - 4) t (omega arith)) in
-    let j = behind h (behind k l) .is in
     let c = length-append (fit blank (w - 4) t) (e ∷ (ns ++ (m ∷ []))) in
     let d = length-append ns (m ∷ []) in
-    whole z (fit blank (w - 4) t ++ (e ∷ (ns ++ (m ∷ [])))) (omega (arith, c, d, length-fit blank (w - 4) t)) (rw i at j)
+    whole z (fit blank (w - 4) t ++ (e ∷ (ns ++ (m ∷ [])))) (omega (arith, c, d, length-fit blank (w - 4) t)) (rw i at (h .is))
 
 pub number-length : (n : ℕ) → length (lineNumber n) ≡ 2
 unfolding lineNumber
@@ -104,13 +103,13 @@ pub line-row-is : {x y u v z : List ℕ} {m e : ℕ} (im sheet : List ℕ) (s : 
 unfolding lineRow componentsOf
 line-row-is im sheet s k p h a b q n r f g i j o = line-row (s .columns) a b r f g i o ∙ rw (n, j, q)
 
-pub title-row-is : {x y u v r z t : List ℕ} {e m : ℕ} (im : List ℕ) (s : Session) (count : ℕ) → 4 ≤ s .columns → s .columns ≤ mostColumns
+pub title-row-is : {x y u z t k : List ℕ} {e m : ℕ} (im : List ℕ) (s : Session) (count : ℕ) → 4 ≤ s .columns → s .columns ≤ mostColumns
     → moreMark count (s .lines - 1) (s .here .cursor) ≡ moreMark (lineCount im (s .here .table .0)) (s .lines - 1) (s .here .cursor) → t ≡ textBytes im (s .here .table .0) → x ≡ [] → Behind x t y → u ≡ kept (fit blank (s .columns - 4) y)
-    → e ≡ editMark im (s .here) → Behind u (e ∷ []) v → Behind v (lineNumber (s .here .cursor + 1)) r
-    → m ≡ moreMark count (s .lines - 1) (s .here .cursor) → Behind r (m ∷ []) z → z ≡ titleRow im s
+    → e ≡ editMark im (s .here) → m ≡ moreMark count (s .lines - 1) (s .here .cursor) → k ≡ e ∷ (lineNumber (s .here .cursor + 1) ++ (m ∷ [])) → Behind u k z
+    → z ≡ titleRow im s
 unfolding titleRow
-title-row-is im s count a b n f g h i j k l o q =
-    title-row (s .columns) a b (number-length (s .here .cursor + 1)) g h i k l q ∙ rw (j, o, n, f)
+title-row-is im s count a b n f g h i j o l q =
+    title-row (lineNumber (s .here .cursor + 1)) _ (s .columns) a b (number-length (s .here .cursor + 1)) g h i (rw l at q) ∙ rw (j, o, n, f)
 
 pub password-row-is : {x y u v r t o z : List ℕ} {d k : ℕ} (im : List ℕ) (s : Session) (h : Head) (n : ℕ) → s .columns ≤ mostColumns → h ≡ cursorHead im (s .here)
     → d ≡ byteAt im (h .password) → k ≡ d - n → x ≡ [] → Behind x (capitalP ∷ []) y → Behind y (0x77 ∷ []) u → Behind u (0x64 ∷ []) v

@@ -1,6 +1,6 @@
 // Row 0: the title with its marks, or the password entry.
 ghost use mathlib.Core.Path.{_≡_};
-ghost use mathlib.Core.List.{_++_};
+ghost use mathlib.Core.List.{[], _∷_, _++_};
 ghost use Prim.Native.Nat.{_+_, _-_, _/_, _≤_};
 ghost use Rattle.session.specs.Fits.{mostColumns, cursorLine};
 ghost use Rattle.cmf.specs.Places.{lineCount};
@@ -58,14 +58,14 @@ fn tens(n: usize) -> u8
     b'0' + (n / 10) as u8
 }
 
-impl Row {
-    // The number of the line at the cursor, from 1.
-    fn line_number(self, cursor: u8) -> Self
-        ensures { λ r. ⌜ Behind (rowText self) (lineNumber (cursor + 1)) (rowText r) ⌝ }
-    {
-        let n = cursor as usize + 1;
-        self.push(tens(n)).push(b'0' + (n % 10) as u8)
-    }
+// The mark of the cursor line, its number from 1, and the mark of more lines.
+fn marks(edit: u8, cursor: u8, more: u8) -> [u8; 4]
+    ensures { λ r. ⌜ r ≡ edit ∷ (lineNumber (cursor + 1) ++ (more ∷ [])) ⌝ }
+{
+    let n = cursor as usize + 1;
+    let high = tens(n);
+    let low = b'0' + (n % 10) as u8;
+    [edit, high, low, more]
 }
 
 // The title with the marks and the number of the cursor line, which stands at a place; so many lines are counted as the mark of more lines tells.
@@ -80,10 +80,9 @@ fn title_row(image: &[u8], session: Session, count: usize, line: usize, mark: u8
     let title = Row::new()
         .push_all(text_bytes(image, here.table.0))
         .fit(columns - 4);
-    let row = title
-        .push(edit_mark(image, here, line, mark))
-        .line_number(cursor);
-    row.push(more_mark(count, rows, cursor))
+    let edit = edit_mark(image, here, line, mark);
+    let behind = marks(edit, cursor, more_mark(count, rows, cursor));
+    title.push_all(&behind)
 }
 
 // The row of a password entry with so many digits typed.

@@ -31,20 +31,20 @@ fit-requires c κs = search needs
 edit-mark-requires : tie.Need-edit-mark-requires
 edit-mark-requires c κs = search needs
 
-push-requires : tie.Need-push-requires
-push-requires c κs = search needs
-
-line-number-requires : tie.Need-line-number-requires
-line-number-requires c κs = search needs
-
 more-mark-requires : tie.Need-more-mark-requires
 more-mark-requires c κs = search needs
 
-push-requires-2 : tie.Need-push-requires-2
-push-requires-2 c κs = search needs
+marks-requires : tie.Need-marks-requires
+marks-requires c κs = search needs
+
+slice-aggregate-push-all : tie.Need-slice-aggregate-push-all
+slice-aggregate-push-all c = search needs
+
+push-all-requires-2 : tie.Need-push-all-requires-2
+push-all-requires-2 c κs = search needs
 
 returns : tie.Need-returns
-returns c = title-row-is _ (c .before .before .before .before .before .before .before .before .before .before .before .before .before .args .session) (c .before .before .before .before .before .before .before .before .before .before .before .before .before .args .count) (c .before .before .before .before .before .before .before .before .before .before .before .before .before .pre .0) (c .before .before .before .before .before .before .before .before .before .before .before .before .before .pre .1) (c .before .before .before .before .before .before .before .before .before .before .before .before .before .pre .3) (c .before .before .before .before .before .before .before .text-bytes .ensures) (c .before .before .before .before .before .before .before .before .new .ensures) (c .before .before .before .before .before .before .push-all .ensures) (c .before .before .before .before .before .fit .ensures) (c .before .before .before .before .edit-mark .ensures) (c .before .before .before .push .ensures) (c .before .before .line-number .ensures) (c .before .more-mark .ensures) (c .push2 .ensures)
+returns c = title-row-is _ (c .before .before .before .before .before .before .before .before .before .before .before .before .before .args .session) (c .before .before .before .before .before .before .before .before .before .before .before .before .before .args .count) (c .before .before .before .before .before .before .before .before .before .before .before .before .before .pre .0) (c .before .before .before .before .before .before .before .before .before .before .before .before .before .pre .1) (c .before .before .before .before .before .before .before .before .before .before .before .before .before .pre .3) (c .before .before .before .before .before .before .before .text-bytes .ensures) (c .before .before .before .before .before .before .before .before .new .ensures) (c .before .before .before .before .before .before .push-all .ensures) (c .before .before .before .before .before .fit .ensures) (c .before .before .before .before .edit-mark .ensures) (c .before .before .before .more-mark .ensures) (c .before .before .marks .ensures) (c .push-all2 .ensures)
 
 pub title-row-spec : {M : Type 1} → statement M
 title-row-spec =
@@ -59,8 +59,8 @@ title-row-spec =
     sub-fit
     fit-requires
     edit-mark-requires
-    push-requires
-    line-number-requires
     more-mark-requires
-    push-requires-2
+    marks-requires
+    slice-aggregate-push-all
+    push-all-requires-2
     returns)
