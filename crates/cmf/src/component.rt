@@ -11,6 +11,7 @@ ghost use Rattle.field.specs.Settings.{settingsFit};
 ghost use Rattle.field.specs.Values.{valueOf, valueAt};
 ghost use Rattle.cmf.specs.Readers.{tagBit, textsFrom, fixedBytes, textCount, given, counterOf, kindAt, sheetPlaceAt, fieldBy, componentRefused, componentRead, laidOut, componentBy, componentAt};
 use crate::image::Image;
+use crate::image::word_in;
 use crate::text::Run;
 use crate::text::read_texts;
 use field::kind::CounterSettings;
@@ -25,7 +26,6 @@ use field::value::value_at;
 use laws::byte_at;
 use laws::room;
 use laws::word_at;
-use laws::word_in;
 
 // refusal: 0, or 6, 7 or 9. holds: it is a field, and no constant string. next: the place of the next component.
 pub struct Component {

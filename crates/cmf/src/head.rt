@@ -6,12 +6,12 @@ ghost use lib.ListN.{length};
 ghost use Rattle.laws.specs.Choice.{if_then_else_};
 ghost use Rattle.cmf.specs.Readers.{textsFrom, passwordFits, headRefused, passwords, optionsEnd, headRead, headBy, headAt};
 use crate::image::Image;
+use crate::image::word_in;
 use crate::text::password_fits;
 use crate::text::read_texts;
 use laws::byte_at;
 use laws::room;
 use laws::word_at;
-use laws::word_in;
 
 // refusal: 0, or 6 or 7. good: its password, if it has one, is one. first, last: of its table. back: the distance from the line before.
 // next, table, password, component: the places of the next line, of the submenu's table, of the password, of the first component;

@@ -1,5 +1,8 @@
 // The prolog's record, and the numbers that the format and the paper fix.
 ghost use mathlib.Core.Path.{_≡_};
+ghost use Prim.Native.Nat.{_+_, _<_};
+ghost use lib.ListN.{length};
+ghost use Rattle.laws.specs.Bytes.{wordAt};
 ghost use Rattle.cmf.specs.Readers.{imageOf};
 use laws::byte_at;
 
@@ -37,4 +40,12 @@ impl Image {
             entry: byte_at(image, 7),
         }
     }
+}
+
+// The two bytes at a place that has them, low byte first.
+pub(crate) fn word_in(image: &[u8], at: usize) -> usize
+    requires { ⌜ at + 1 < length (now image) ⌝ }
+    ensures { λ r. ⌜ (r ≡ wordAt (now (image .entry)) at) × (r < 65536) ⌝ }
+{
+    image[at] as usize + 256 * (image[at + 1] as usize)
 }

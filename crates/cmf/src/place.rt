@@ -10,10 +10,10 @@ ghost use Rattle.cmf.specs.Places.{lineAt, lineCount};
 use crate::head::Head;
 use crate::head::any_head;
 use crate::image::Image;
+use crate::image::word_in;
 use crate::text::read_texts;
 use crate::title::read_title;
 use laws::room;
-use laws::word_in;
 
 // Of a line's head what leads on: whether the line is the last of its table, and the place of the next line.
 struct Step {

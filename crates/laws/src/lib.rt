@@ -1,7 +1,7 @@
 // What every crate uses and what knows nothing of menus: accessors of byte slices that are total,
 // and in specs/ and proofs/ the choice, parts, overwriting and digits with their laws.
 ghost use mathlib.Core.Path.{_≡_};
-ghost use Prim.Native.Nat.{_+_, _<_};
+ghost use Prim.Native.Nat.{_<_};
 ghost use lib.ListN.{length};
 ghost use Rattle.laws.specs.Bytes.{byteAt, wordAt, room};
 
@@ -21,14 +21,6 @@ pub fn word_at(s: &[u8], at: usize) -> u16
     } else {
         0
     }
-}
-
-// The two bytes at a place that has them, low byte first.
-pub fn word_in(s: &[u8], at: usize) -> usize
-    requires { ⌜ at + 1 < length (now s) ⌝ }
-    ensures { λ r. ⌜ (r ≡ wordAt (now (s .entry)) at) × (r < 65536) ⌝ }
-{
-    s[at] as usize + 256 * (s[at + 1] as usize)
 }
 
 // Whether n bytes stand at a place.

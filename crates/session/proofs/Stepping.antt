@@ -23,6 +23,13 @@ unfolding _and_
 and-none true = refl
 and-none false = refl
 
+-- a conjunction of four whose third or fourth part fails
+third-none : (a b : Bool) {c : Bool} (d : Bool) → c ≡ false → a and (b and (c and d)) ≡ false
+third-none a b d e = rw (and-false d e, and-none b) (and-none a)
+
+fourth-none : (a b c : Bool) {d : Bool} → d ≡ false → a and (b and (c and d)) ≡ false
+fourth-none a b c e = rw (e, and-none c, and-none b) (and-none a)
+
 -- ---- levels
 
 module _ (im : List ℕ) (lines t : ℕ) (l : Level) where
@@ -32,14 +39,12 @@ module _ (im : List ℕ) (lines t : ℕ) (l : Level) where
 
   pub level-above : l .cursor < l .first → levelFits im lines t l ≡ false
   unfolding levelFits
-  level-above h = rw (and-false (l .cursor <? l .first + (lines - 1)) (lt-leb (l .first) (l .cursor) h), and-none (l .cursor <? lineCount im t)) (and-none _)
+  level-above h = third-none _ _ _ (lt-leb (l .first) (l .cursor) h)
 
   module _ (shown : ℕ) (e : shown ≡ lines - 1) where
     pub level-below : l .first + shown ≤ l .cursor → levelFits im lines t l ≡ false
     unfolding levelFits
-    level-below h =
-        let b : (l .cursor <? l .first + (lines - 1)) ≡ false = le-ltb (l .cursor) (l .first + (lines - 1)) (omega arith) in
-        rw (b, and-none (l .first ≤? l .cursor), and-none (l .cursor <? lineCount im t)) (and-none _)
+    level-below h = fourth-none _ _ _ (le-ltb (l .cursor) (l .first + (lines - 1)) (omega arith))
 
     -- where the table is right and the cursor is among the lines shown, the cursor line decides
     pub level-reached : l .table .0 ≡ t → l .first ≤ l .cursor → l .cursor < l .first + shown → (l .cursor <? lineCount im t) ≡ levelFits im lines t l

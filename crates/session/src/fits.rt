@@ -48,7 +48,7 @@ pub(crate) fn less_one(lines: u8) -> usize
     (lines - 1) as usize
 }
 
-// Whether a table has a line, and where it stands; without meaning where it has none.
+// Whether a table has a line, and where it stands; 0 where it has none.
 pub struct Reached {
     pub there: bool,
     pub place: usize,
@@ -56,7 +56,7 @@ pub struct Reached {
 
 impl Reached {
     fn nowhere() -> Self
-        ensures { λ r. ⌜ r .there ≡ false ⌝ }
+        ensures { λ r. ⌜ (r .there ≡ false) × (r .place ≡ 0) ⌝ }
     {
         Reached {
             there: false,
@@ -67,7 +67,7 @@ impl Reached {
 
 // Line k of a table, from 0; no line behind it is looked at.
 pub fn reach(image: &[u8], table: usize, k: usize) -> Reached
-    ensures { λ r. ⌜ (r .there ≡ (k <? lineCount (now (image .entry)) table)) × (r .there ≡ true → r .place ≡ lineAt (now (image .entry)) table k) ⌝ }
+    ensures { λ r. ⌜ (r .there ≡ (k <? lineCount (now (image .entry)) table)) × (r .there ≡ true → r .place ≡ lineAt (now (image .entry)) table k) × (r .there ≡ false → r .place ≡ 0) ⌝ }
 {
     if Image::MAX_TABLE_LINES < k {
         return Reached::nowhere();

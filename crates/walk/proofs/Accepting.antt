@@ -17,7 +17,7 @@ use Rattle.cmf.specs.Layouts.{Aligned, Component, optionAt, lastBit}
 use Rattle.cmf.specs.declared.component.Component as read
 use Rattle.cmf.proofs.Agreement.{Agree}
 use Rattle.cmf.proofs.Agreeing.{agree}
-use Rattle.walk.specs.declared.accept.Stage.{Stage}
+use Rattle.walk.specs.declared.stage.Stage.{Stage}
 use Rattle.walk.specs.declared.index.Entry.{Entry}
 use Rattle.walk.specs.Check.{State, fine, andThen, padded, entryOf, onComponent, onComponents}
 use Rattle.walk.specs.Accept.{Claimed, Claims, Passes, Covers, Stands, Reaches}

@@ -14,7 +14,7 @@ use Rattle.cmf.specs.Grammar.{isLast, hasSubmenu, nextLine, submenuTable}
 use Rattle.cmf.specs.declared.title.Title as read-title
 use Rattle.cmf.proofs.Agreement.{Agree, HeadReads}
 use Rattle.cmf.proofs.Agreeing.{agree}
-use Rattle.walk.specs.declared.accept.Stage.{Stage}
+use Rattle.walk.specs.declared.stage.Stage.{Stage}
 use Rattle.walk.specs.Check.{State, onComponents, onHead, onTitle, onSubmenu, onBody, onLine, onLines, onTable, start, walked, prologCode, checked, refusalOf}
 use Rattle.walk.specs.Accept.{Placed, Covers, Stands, Reaches}
 use Rattle.walk.proofs.Steps.{title-goes, head-goes}

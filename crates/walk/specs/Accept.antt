@@ -10,21 +10,21 @@ use Rattle.cmf.specs.Limits.{mostFields, mostLines, longestSheet}
 use Rattle.cmf.specs.Layouts.{Aligned, Component}
 use Rattle.cmf.specs.Grammar.{isFirst, previousAt, Head}
 use Rattle.walk.specs.Check.{State, state}
-use Rattle.walk.specs.declared.accept.Stage.{Stage}
+use Rattle.walk.specs.declared.stage.Stage.{Stage}
 use Rattle.walk.specs.declared.index.Entry.{Entry}
 
 -- whether byte i of the sheet is marked: its bit, 1 or 0, in words of 64
 unfoldable pub markAt : List ℕ → ℕ → ℕ
 markAt marks i = getD marks (i / 64) 0 / 2 ^ (i % 64) % 2
 
--- bytes of the sheet that were free are marked, and what was marked stays so
+-- 01, rows 10 and 11: bytes that lie in the sheet and were free are marked, and what was marked stays so
 pub record Claimed (sheet : ℕ) (old new : List ℕ) (from size : ℕ) : Type 0 where
   pub inside : from + size ≤ sheet
   pub free : (i : ℕ) → from ≤ i → i < from + size → markAt old i ≡ 1 → ⊥
   pub marked : (i : ℕ) → from ≤ i → i < from + size → markAt new i ≡ 1
   pub kept : (i : ℕ) → markAt old i ≡ 1 → markAt new i ≡ 1
 
--- the field of a component, if it is one, is counted, and its bytes are marked
+-- 01, row 8: the field of a component, if it is one, is counted, 256 at most, and its bytes are marked
 pub data Claims (sheet : ℕ) (old new : List ℕ) (before after : ℕ) : List Field → Type 0 where
   none : new ≡ old → after ≡ before → Claims sheet old new before after []
   one : {f : Field} → before < mostFields → after ≡ before + 1 → Claimed sheet old new (f .sheet .0) (sizeOf f) → Claims sheet old new before after (f ∷ [])
@@ -35,7 +35,7 @@ pub record Linked (im : List ℕ) (n before p : ℕ) : Type 0 where
   pub later : 0 < n → isFirst im p ≡ 0
   pub previous : 0 < n → before + wordAt im (previousAt im p) ≡ p
 
--- a line's head that the grammar has, where the walk stands
+-- R6, 01, row 8: a line's head that the grammar has, at the first odd place behind where the walk stands, and not the 1,025th
 pub record Placed (im : List ℕ) (n before p : ℕ) (w : Stage) (end : ℕ) : Type 0 where
   pub room : w .lines < mostLines
   pub inside : p < length im

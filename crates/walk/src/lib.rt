@@ -1,5 +1,9 @@
 // The check of an image and a sheet (refusals 2 to 11), and the index of the fields that it reaches.
 pub mod accept;
 pub mod check;
+mod claim;
+mod components;
+mod heads;
 pub mod index;
+pub mod stage;
 pub mod state;

@@ -1,6 +1,7 @@
 -- The walk: the line that is left to go to is there as the one asked for is, and is the same.
 use Prim.Native.Nat.{_+_, _-_, _≤_}
 use mathlib.Core.Path.{_≡_, refl, _∙_}
+use mathlib.Core.Bool.{true≢false}
 use native.Mathlib.Omega.{arith}
 use lib.ListN.{length}
 use Rattle.laws.specs.Choice.{_<?_}
@@ -20,7 +21,7 @@ nowhere-requires : tie.Need-nowhere-requires Inv-loop μ-loop
 nowhere-requires c κs = search needs
 
 returns : tie.Need-returns Inv-loop μ-loop
-returns c = none (c .nowhere .ensures) (reach-far _ _ _ (c .before .if1 .taken))
+returns c = let n = none (c .nowhere .ensures .0) (reach-far _ _ _ (c .before .if1 .taken)) in (n .0, n .1, λ _. c .nowhere .ensures .1)
 
 read-title-requires : tie.Need-read-title-requires Inv-loop μ-loop
 read-title-requires c κs = search needs
@@ -35,7 +36,7 @@ nowhere-requires-2 : tie.Need-nowhere-requires-2 Inv-loop μ-loop
 nowhere-requires-2 c κs = search needs
 
 returns-2 : tie.Need-returns-2 Inv-loop μ-loop
-returns-2 c = walk-none _ _ _ (c .before .before .before .before .before .read-title .result) (c .before .before .before .before .before .read-title .ensures) (c .before .before .before .before .loop .inv .1) (c .nowhere2 .ensures) (reach-last _ (100 - c .before .before .before .before .before .before .before .before .args .k) (c .before .before .before .before .loop .left) (c .before .before .before .before .loop .p) (c .before .before .read-head .result) (c .before .before .before .loop-test .taken) (c .before .before .read-head .ensures) (c .before .if2 .taken))
+returns-2 c = let n = walk-none _ _ _ (c .before .before .before .before .before .read-title .result) (c .before .before .before .before .before .read-title .ensures) (c .before .before .before .before .loop .inv .1) (c .nowhere2 .ensures .0) (reach-last _ (100 - c .before .before .before .before .before .before .before .before .args .k) (c .before .before .before .before .loop .left) (c .before .before .before .before .loop .p) (c .before .before .read-head .result) (c .before .before .before .loop-test .taken) (c .before .before .read-head .ensures) (c .before .if2 .taken)) in (n .0, n .1, λ _. c .nowhere2 .ensures .1)
 
 sub-left : tie.Need-sub-left Inv-loop μ-loop
 sub-left c = omega arith
@@ -47,7 +48,7 @@ loop-again : tie.Need-loop-again Inv-loop μ-loop
 loop-again c = (omega arith, reach-next _ (100 - c .before .before .before .before .before .before .before .args .k) (c .before .before .before .loop .left) (c .before .before .before .loop .p) (c .before .read-head .result) (c .before .before .loop-test .taken) (c .before .read-head .ensures) (c .if2 .left) ∙ c .before .before .before .loop .inv .1, line-turn _ (c .before .before .before .loop .left) (c .before .before .before .loop .p) (c .before .read-head .result) (c .before .before .loop-test .taken) (c .before .read-head .ensures) ∙ c .before .before .before .loop .inv .2)
 
 returns-3 : tie.Need-returns-3 Inv-loop μ-loop
-returns-3 c = walk-there _ _ _ (c .before .before .read-title .result) (c .before .before .read-title .ensures) (c .before .loop .inv .1) (c .before .loop .p) (c .before .loop .left) (c .loop-test .left) (reach-here _ (100 - c .before .before .before .before .before .args .k) (c .before .loop .left) (c .before .loop .p) (omega arith) (c .loop-test .left)) (c .before .loop .inv .2)
+returns-3 c = let n = walk-there _ _ _ (c .before .before .read-title .result) (c .before .before .read-title .ensures) (c .before .loop .inv .1) (c .before .loop .p) (c .before .loop .left) (c .loop-test .left) (reach-here _ (100 - c .before .before .before .before .before .args .k) (c .before .loop .left) (c .before .loop .p) (omega arith) (c .loop-test .left)) (c .before .loop .inv .2) in (n .0, n .1, λ e. absurd (true≢false e))
 
 pub reach-spec : {M : Type 1} → statement M
 reach-spec =

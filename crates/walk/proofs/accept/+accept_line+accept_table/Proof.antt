@@ -16,11 +16,11 @@ use Rattle.walk.proofs.accept.accept_table.Reads as accept-table
 use Rattle.walk.proofs.accept.accept_table.Kinds as accept-table-kinds
 use Rattle.walk.proofs.accept.+accept_line+accept_table.Lts-accept_table as accept-table-lts
 use Rattle.cmf.proofs.title.read_title.Reads as read-title-reads
-use Rattle.walk.proofs.accept.Stage.doubt.Reads as doubt-reads
-use Rattle.walk.proofs.accept.accept_components.Reads as accept-components-reads
-use Rattle.walk.proofs.accept.accept_head.Reads as accept-head-reads
-use Rattle.walk.proofs.accept.submenu_of.Reads as submenu-of-reads
-use Rattle.laws.proofs.word_in.Reads as word-in-reads
+use Rattle.walk.proofs.stage.Stage.doubt.Reads as doubt-reads
+use Rattle.walk.proofs.components.accept_components.Reads as accept-components-reads
+use Rattle.walk.proofs.heads.accept_head.Reads as accept-head-reads
+use Rattle.walk.proofs.heads.submenu_of.Reads as submenu-of-reads
+use Rattle.walk.proofs.heads.word_in.Reads as word-in-reads
 use Rattle.walk.proofs.accept.+accept_line+accept_table.{statement}
 use Rattle.walk.proofs.accept.+accept_line+accept_table.Tie.{close}
 

@@ -10,7 +10,7 @@ nowhere-requires : tie.Need-nowhere-requires
 nowhere-requires c κs = search needs
 
 returns : tie.Need-returns
-returns c = none (c .nowhere .ensures) (level-other _ _ _ (c .before .before .before .before .args .self) (c .before .if1 .taken))
+returns c = none (c .nowhere .ensures .0) (level-other _ _ _ (c .before .before .before .before .args .self) (c .before .if1 .taken))
 
 cast-cursor : tie.Need-cast-cursor
 cast-cursor c = search needs
@@ -25,7 +25,7 @@ nowhere-requires-2 : tie.Need-nowhere-requires-2
 nowhere-requires-2 c κs = search needs
 
 returns-2 : tie.Need-returns-2
-returns-2 c = none (c .nowhere2 .ensures) (level-above _ _ _ (c .before .before .before .before .before .before .before .before .args .self) (c .before .if2 .taken))
+returns-2 c = none (c .nowhere2 .ensures .0) (level-above _ _ _ (c .before .before .before .before .before .before .before .before .args .self) (c .before .if2 .taken))
 
 add-if3 : tie.Need-add-if3
 add-if3 c = search needs
@@ -34,7 +34,7 @@ nowhere-requires-3 : tie.Need-nowhere-requires-3
 nowhere-requires-3 c κs = search needs
 
 returns-3 : tie.Need-returns-3
-returns-3 c = none (c .nowhere3 .ensures) (level-below _ _ _ (c .before .before .before .before .before .before .before .before .before .args .self) _ (c .before .before .before .less-one .ensures) (c .before .if3 .taken))
+returns-3 c = none (c .nowhere3 .ensures .0) (level-below _ _ _ (c .before .before .before .before .before .before .before .before .before .args .self) _ (c .before .before .before .less-one .ensures) (c .before .if3 .taken))
 
 reach-requires : tie.Need-reach-requires
 reach-requires c κs = search needs

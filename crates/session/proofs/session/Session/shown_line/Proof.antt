@@ -28,7 +28,7 @@ nowhere-requires c κs = search needs
 
 returns : tie.Need-returns Inv-loop μ-loop
 unfolding tablesFit _and_
-returns c = none (c .nowhere .ensures) (simp (le-ltb _ _ (c .before .if1 .taken)))
+returns c = none (c .nowhere .ensures .0) (simp (le-ltb _ _ (c .before .if1 .taken)))
 
 loop-holds : tie.Need-loop-holds Inv-loop μ-loop
 loop-holds c = (refl, omega arith, omega (arith, above-length (c .before .before .before .args .self) _ (c .before .before .before .good .0)))
@@ -44,7 +44,7 @@ nowhere-requires-2 c κs = search needs
 
 returns-2 : tie.Need-returns-2 Inv-loop μ-loop
 unfolding tablesFit _and_
-returns-2 c = none (c .nowhere2 .ensures) (sym (sym (level-bad (c .before .before .before .before .before .before .before .before .before .before .args .image .now) (c .before .before .before .before .before .before .before .before .before .before .args .self .lines) (c .before .before .before .before .before .before .loop .t) (c .before .before .before .before .before .before .before .before .before .before .args .self .above) (c .before .before .before .before .before .before .loop .i) (c .before .before .before .before .before .before .before .before .before .before .args .self .outer) (c .before .before .before .before .before .before .before .before .before .before .args .self .here) (c .before .before .before .before .before .loop-test .taken) (c .before .before .before .before .before .before .loop .inv .2) (rw (c .before .before .before .before .above-at .ensures) at (via (c .before .before .before .shown .ensures .0) (not-true (c .before .before .before .shown .result .there) (c .before .if2 .taken))))) ∙ c .before .before .before .before .before .before .loop .inv .0 ∙ sym (simp (lt-ltb _ _ (c .before .before .before .before .before .before .before .if1 .left)))))
+returns-2 c = none (c .nowhere2 .ensures .0) (sym (sym (level-bad (c .before .before .before .before .before .before .before .before .before .before .args .image .now) (c .before .before .before .before .before .before .before .before .before .before .args .self .lines) (c .before .before .before .before .before .before .loop .t) (c .before .before .before .before .before .before .before .before .before .before .args .self .above) (c .before .before .before .before .before .before .loop .i) (c .before .before .before .before .before .before .before .before .before .before .args .self .outer) (c .before .before .before .before .before .before .before .before .before .before .args .self .here) (c .before .before .before .before .before .loop-test .taken) (c .before .before .before .before .before .before .loop .inv .2) (rw (c .before .before .before .before .above-at .ensures) at (via (c .before .before .before .shown .ensures .0) (not-true (c .before .before .before .shown .result .there) (c .before .if2 .taken))))) ∙ c .before .before .before .before .before .before .loop .inv .0 ∙ sym (simp (lt-ltb _ _ (c .before .before .before .before .before .before .before .if1 .left)))))
 
 read-head-requires : tie.Need-read-head-requires Inv-loop μ-loop
 read-head-requires c κs = search needs
@@ -54,7 +54,7 @@ nowhere-requires-3 c κs = search needs
 
 returns-3 : tie.Need-returns-3 Inv-loop μ-loop
 unfolding tablesFit _and_
-returns-3 c = none (c .nowhere3 .ensures) (sym (sym (level-plain (c .before .before .before .before .before .before .before .before .before .before .before .before .before .args .image .now) (c .before .before .before .before .before .before .before .before .before .before .before .before .before .args .self .lines) (c .before .before .before .before .before .before .before .before .before .loop .t) (c .before .before .before .before .before .before .before .before .before .before .before .before .before .args .self .above) (c .before .before .before .before .before .before .before .before .before .loop .i) (c .before .before .before .before .before .before .before .before .before .before .before .before .before .args .self .outer) (c .before .before .before .before .before .before .before .before .before .before .before .before .before .args .self .here) (c .before .before .before .read-head .result) (c .before .before .before .before .before .before .before .before .loop-test .taken) (c .before .before .before .before .before .before .before .before .before .loop .inv .2) (rw (c .before .before .before .before .before .before .before .above-at .ensures) at (via (c .before .before .before .before .before .before .shown .ensures .0) (not-false (c .before .before .before .before .before .before .shown .result .there) (c .before .before .before .before .if2 .left)))) (head-there _ _ _ _ (c .before .before .before .read-head .result) (c .before .before .before .before .before .before .before .above-at .ensures) (c .before .before .before .before .before .before .shown .ensures .1 (not-false (c .before .before .before .before .before .before .shown .result .there) (c .before .before .before .before .if2 .left))) (c .before .before .before .read-head .ensures)) (not-true (c .before .before .before .read-head .result .submenu) (c .before .if3 .taken))) ∙ c .before .before .before .before .before .before .before .before .before .loop .inv .0 ∙ sym (simp (lt-ltb _ _ (c .before .before .before .before .before .before .before .before .before .before .if1 .left)))))
+returns-3 c = none (c .nowhere3 .ensures .0) (sym (sym (level-plain (c .before .before .before .before .before .before .before .before .before .before .before .before .before .args .image .now) (c .before .before .before .before .before .before .before .before .before .before .before .before .before .args .self .lines) (c .before .before .before .before .before .before .before .before .before .loop .t) (c .before .before .before .before .before .before .before .before .before .before .before .before .before .args .self .above) (c .before .before .before .before .before .before .before .before .before .loop .i) (c .before .before .before .before .before .before .before .before .before .before .before .before .before .args .self .outer) (c .before .before .before .before .before .before .before .before .before .before .before .before .before .args .self .here) (c .before .before .before .read-head .result) (c .before .before .before .before .before .before .before .before .loop-test .taken) (c .before .before .before .before .before .before .before .before .before .loop .inv .2) (rw (c .before .before .before .before .before .before .before .above-at .ensures) at (via (c .before .before .before .before .before .before .shown .ensures .0) (not-false (c .before .before .before .before .before .before .shown .result .there) (c .before .before .before .before .if2 .left)))) (head-there _ _ _ _ (c .before .before .before .read-head .result) (c .before .before .before .before .before .before .before .above-at .ensures) (c .before .before .before .before .before .before .shown .ensures .1 (not-false (c .before .before .before .before .before .before .shown .result .there) (c .before .before .before .before .if2 .left))) (c .before .before .before .read-head .ensures)) (not-true (c .before .before .before .read-head .result .submenu) (c .before .if3 .taken))) ∙ c .before .before .before .before .before .before .before .before .before .loop .inv .0 ∙ sym (simp (lt-ltb _ _ (c .before .before .before .before .before .before .before .before .before .before .if1 .left)))))
 
 add-i : tie.Need-add-i Inv-loop μ-loop
 add-i c = omega arith
