@@ -2,11 +2,14 @@
 ghost use mathlib.Core.Path.{_≡_};
 ghost use mathlib.Core.Bool.{true, false};
 ghost use Prim.Native.Nat.{_-_};
-ghost use lib.ListN.{getD};
-ghost use Rattle.laws.specs.Choice.{_<?_};
+ghost use lib.ListN.{getD, take};
+ghost use Rattle.laws.specs.Choice.{_and_, _<?_};
+ghost use Rattle.laws.specs.Bytes.{byteAt};
+ghost use Rattle.cmf.specs.Limits.{prologBytes, deepestTable};
+ghost use Rattle.cmf.specs.Readers.{headAt, componentAt};
 ghost use Rattle.cmf.specs.Places.{componentsOf, lineAt, lineCount};
 ghost use Rattle.session.specs.Session.{noLevel};
-ghost use Rattle.session.specs.Fits.{shapeFits, cursorLine, cursorHead, levelFits, tablesFit, among, workFits, visitFits, digitsTo, entryFits, modeFits, sessionFits};
+ghost use Rattle.session.specs.Fits.{shapeFits, cursorLine, cursorHead, levelFits, levelsFit, among, workFits, digitsTo, sessionFits};
 use crate::session::Level;
 use crate::session::Mode;
 use crate::session::Session;
@@ -173,97 +176,91 @@ impl Session {
             first: 0,
         }
     }
+}
 
-    // The cursor line, where the tables fit.
-    fn shown_line(self, image: &[u8]) -> Reached
-        ensures { λ r. ⌜ (r .there ≡ tablesFit (now (image .entry)) self) × (r .there ≡ true → r .place ≡ cursorLine (now (image .entry)) (self .here)) ⌝ }
-    {
-        let count = self.outer as usize;
-        if Image::MAX_DEPTH <= count {
+// The cursor line, where the tables fit: the open ones above, from the top, and the shown one.
+fn shown_line(
+    image: &[u8],
+    lines: u8,
+    outer: u8,
+    above: [Level; Session::MAX_ABOVE],
+    here: Level,
+) -> Reached
+    ensures { λ r. ⌜ (r .there ≡ ((outer <? deepestTable) and levelsFit (now (image .entry)) lines prologBytes (take outer above) here)) × (r .there ≡ true → r .place ≡ cursorLine (now (image .entry)) here) ⌝ }
+{
+    let count = outer as usize;
+    if Image::MAX_DEPTH <= count {
+        return Reached::nowhere();
+    }
+    let mut t = Image::PROLOG;
+    let mut i = 0;
+    while i < count {
+        let l = above[i];
+        let line = l.shown(image, lines, t);
+        if !line.there {
             return Reached::nowhere();
         }
-        let mut t = Image::PROLOG;
-        let mut i = 0;
-        while i < count {
-            let l = self.above_at(i);
-            let line = l.shown(image, self.lines, t);
-            if !line.there {
-                return Reached::nowhere();
-            }
-            let h = read_head(image, line.place);
-            if !h.submenu {
-                return Reached::nowhere();
-            }
-            t = h.table;
-            i = i + 1;
+        let h = read_head(image, line.place);
+        if !h.submenu {
+            return Reached::nowhere();
         }
-        self.here.shown(image, self.lines, t)
+        t = h.table;
+        i = i + 1;
     }
+    here.shown(image, lines, t)
+}
 
-    fn visit_fits(self, image: &[u8], line: usize, place: usize) -> bool
-        requires { ⌜ line ≡ cursorLine (now image) (self .here) ⌝ }
-        ensures { λ r. ⌜ r ≡ visitFits (now (image .entry)) self place ⌝ }
-    {
-        let on_line = is_on_line(image, line, place);
-        if !on_line {
+// Whether a visit of the component at a place fits the cursor line.
+fn visit_fits(image: &[u8], line: usize, place: usize, work: Work) -> bool
+    ensures { λ r. ⌜ r ≡ (among place (componentsOf (now (image .entry)) line) and (componentAt (now (image .entry)) place .holds and (componentAt (now (image .entry)) place .editable and workFits (componentAt (now (image .entry)) place .field .kind) work))) ⌝ }
+{
+    let on_line = is_on_line(image, line, place);
+    if !on_line {
+        return false;
+    }
+    let c = read_component(image, place);
+    if !c.holds {
+        return false;
+    }
+    if !c.editable {
+        return false;
+    }
+    let field = c.field;
+    let kind = field.kind;
+    work_fits(kind, work)
+}
+
+// Whether the first n numbers typed are digits.
+fn digits_to(typed: [u8; Image::MAX_PASSWORD], n: u8) -> bool
+    ensures { λ r. ⌜ r ≡ digitsTo typed n ⌝ }
+{
+    let count = n as usize;
+    let mut i = 0;
+    while i < count {
+        if Session::LAST_DIGIT < byte_at(&typed, i) {
             return false;
         }
-        let c = read_component(image, place);
-        if !c.holds {
-            return false;
-        }
-        if !c.editable {
-            return false;
-        }
-        let field = c.field;
-        let kind = field.kind;
-        work_fits(kind, self.work)
+        i = i + 1;
     }
+    true
+}
 
-    // Whether the first n numbers typed are digits.
-    fn digits_to(self, n: u8) -> bool
-        ensures { λ r. ⌜ r ≡ digitsTo (self .typed) n ⌝ }
-    {
-        let typed = self.typed;
-        let count = n as usize;
-        let mut i = 0;
-        while i < count {
-            if Session::LAST_DIGIT < byte_at(&typed, i) {
-                return false;
-            }
-            i = i + 1;
-        }
-        true
+// Whether a password entry with n digits typed fits the cursor line.
+fn entry_fits(image: &[u8], line: usize, n: u8, typed: [u8; Image::MAX_PASSWORD]) -> bool
+    ensures { λ r. ⌜ r ≡ (headAt (now (image .entry)) line .protected and ((n <? byteAt (now (image .entry)) (headAt (now (image .entry)) line .password)) and digitsTo typed n)) ⌝ }
+{
+    let h = read_head(image, line);
+    if !h.protected {
+        return false;
     }
-
-    fn entry_fits(self, image: &[u8], line: usize, n: u8) -> bool
-        requires { ⌜ line ≡ cursorLine (now image) (self .here) ⌝ }
-        ensures { λ r. ⌜ r ≡ entryFits (now (image .entry)) self n ⌝ }
-    {
-        let h = read_head(image, line);
-        if !h.protected {
-            return false;
-        }
-        if n < byte_at(image, h.password) {
-            return self.digits_to(n);
-        }
-        false
+    if n < byte_at(image, h.password) {
+        return digits_to(typed, n);
     }
+    false
+}
 
-    // The cursor line stands at a place.
-    fn mode_fits(self, image: &[u8], line: usize) -> bool
-        requires { ⌜ line ≡ cursorLine (now image) (self .here) ⌝ }
-        ensures { λ r. ⌜ r ≡ modeFits (now (image .entry)) self (self .mode) ⌝ }
-    {
-        let mode = self.mode;
-        match mode {
-            Mode::Browsing => true,
-            Mode::Visit(p) => self.visit_fits(image, line, p.0),
-            Mode::Password(n) => self.entry_fits(image, line, n),
-        }
-    }
-
-    // Whether the session fits an image.
+impl Session {
+    // Whether the session fits an image. Each clause is given the fields that it asks about: a session that is handed on whole is copied.
     pub fn fits(self, image: &[u8]) -> bool
         ensures { λ r. ⌜ r ≡ sessionFits (now (image .entry)) self ⌝ }
     {
@@ -271,10 +268,23 @@ impl Session {
         if !shape {
             return false;
         }
-        let line = self.shown_line(image);
+        let above = self.above;
+        let here = self.here;
+        let line = shown_line(image, self.lines, self.outer, above, here);
         if !line.there {
             return false;
         }
-        self.mode_fits(image, line.place)
+        let mode = self.mode;
+        match mode {
+            Mode::Browsing => true,
+            Mode::Visit(p) => {
+                let work = self.work;
+                visit_fits(image, line.place, p.0, work)
+            }
+            Mode::Password(n) => {
+                let typed = self.typed;
+                entry_fits(image, line.place, n, typed)
+            }
+        }
     }
 }

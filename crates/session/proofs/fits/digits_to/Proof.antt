@@ -6,8 +6,8 @@ use mathlib.Core.Bool.{true}
 use Rattle.session.specs.Fits.{digitsTo}
 use Rattle.session.proofs.Stepping.{digits-next, digits-bad}
 use borrow.Author.Needs.{needs}
-use Rattle.session.proofs.session.Session.digits_to.Statement.{statement}
-use Rattle.session.proofs.session.Session.digits_to.Tie as tie
+use Rattle.session.proofs.fits.digits_to.Statement.{statement}
+use Rattle.session.proofs.fits.digits_to.Tie as tie
 
 abbrev Inv-loop : tie.InvT-loop
 Inv-loop n typed count i₀ i = (digitsTo typed i ≡ true) × (i ≤ count)
@@ -26,7 +26,7 @@ byte-at-requires : tie.Need-byte-at-requires Inv-loop μ-loop
 byte-at-requires c κs = search needs
 
 returns : tie.Need-returns Inv-loop μ-loop
-returns c = sym (digits-bad (c .before .before .before .before .before .before .args .self .typed) (c .before .before .before .before .loop .i) (c .before .before .before .before .before .before .args .n) (c .before .before .before .loop-test .taken) (omega (arith, c .before .byte-at .ensures, c .if1 .taken)))
+returns c = sym (digits-bad (c .before .before .before .before .before .args .t1) (c .before .before .before .before .loop .i) (c .before .before .before .before .before .args .n) (c .before .before .before .loop-test .taken) (omega (arith, c .before .byte-at .ensures, c .if1 .taken)))
 
 add-i : tie.Need-add-i Inv-loop μ-loop
 add-i c = omega arith
@@ -35,10 +35,10 @@ loop-less : tie.Need-loop-less Inv-loop μ-loop
 loop-less c = omega arith
 
 loop-again : tie.Need-loop-again Inv-loop μ-loop
-loop-again c = (digits-next (c .before .before .before .before .before .before .args .self .typed) (c .before .before .before .before .loop .i) (c .before .before .before .before .loop .inv .0) (omega (arith, c .before .byte-at .ensures, c .if1 .left)), omega arith)
+loop-again c = (digits-next (c .before .before .before .before .before .args .t1) (c .before .before .before .before .loop .i) (c .before .before .before .before .loop .inv .0) (omega (arith, c .before .byte-at .ensures, c .if1 .left)), omega arith)
 
 returns-2 : tie.Need-returns-2 Inv-loop μ-loop
-returns-2 c = let z : c .before .loop .i ≡ c .before .before .before .args .n = omega arith in rw (← z) (sym (c .before .loop .inv .0))
+returns-2 c = let z : c .before .loop .i ≡ c .before .before .args .n = omega arith in rw (← z) (sym (c .before .loop .inv .0))
 
 pub digits-to-spec : {M : Type 1} → statement M
 digits-to-spec =
