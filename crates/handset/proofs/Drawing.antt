@@ -15,6 +15,7 @@ use Rattle.picture.specs.Rows.{pictureOf, filled}
 use Rattle.picture.proofs.Filling.{is-filled}
 use Rattle.picture.specs.Cursor.{editCursor}
 use Rattle.handset.proofs.Ordering.{none-before, none-unless, session-granted}
+use Rattle.handset.specs.Refusals.{_before_, _unless_, sessionRefusal}
 use Rattle.handset.specs.Draw.{drawRefusal, drawCursor, drawnPicture}
 
 -- what a Draw that is not refused has tested
@@ -33,6 +34,12 @@ granted im sheet s n h =
       fits = b .fits;
       size = eqb-true n (s .columns * s .lines) (none-unless 1 _ (λ z. omega arith) (a .1));
     }
+
+-- the refusal of a Draw, from that of image, sheet and session
+pub refusal-from : (im : List ℕ) (sheet : ℕ) (s : Session) (n u k : ℕ) → u ≡ sessionRefusal im sheet s → k ≡ (u before (1 unless (n =? s .columns * s .lines)))
+    → k ≡ drawRefusal im sheet s n
+unfolding drawRefusal
+refusal-from im sheet s n u k p q = rw p at q
 
 pub shape-fits : (im : List ℕ) (s : Session) → sessionFits im s ≡ true → shapeFits (s .columns) (s .lines) ≡ true
 unfolding sessionFits

@@ -6,11 +6,19 @@ use lib.ListN.{length}
 use borrow.Author.Tests.{leb-true}
 use native.Mathlib.Omega.{arith}
 use Prim.Native.Nat.{_≤_}
+use Rattle.laws.specs.Choice.{_≤?_}
 use Rattle.laws.proofs.Cases.{if-eq, if-ne}
+use Rattle.session.specs.Events.{second}
 use Rattle.session.specs.Event.{stepOf, sheetOf}
 use Rattle.session.specs.declared.session.Session.{Session}
+use Rattle.handset.specs.Refusals.{_before_, _unless_, sessionRefusal}
 use Rattle.handset.specs.Event.{eventRefusal, refusedWith, eventStep, eventSheet}
 use Rattle.handset.proofs.Ordering.{Granted, none-before, none-unless, session-granted}
+
+-- the refusal of an Event, from that of image, sheet and session
+pub refusal-from : (im : List ℕ) (sheet : ℕ) (s : Session) (e u k : ℕ) → u ≡ sessionRefusal im sheet s → k ≡ (u before (13 unless (e ≤? second))) → k ≡ eventRefusal im sheet s e
+unfolding eventRefusal
+refusal-from im sheet s e u k p q = rw p at q
 
 module _ (im sheet : List ℕ) (s : Session) (e k : ℕ) (q : k ≡ eventRefusal im (length sheet) s e) where
   -- a refused Event hands the session back and leaves the sheet

@@ -1,7 +1,10 @@
 // The call Draw: fills a picture, and says where the edit cursor stands.
 ghost use mathlib.Core.Path.{_≡_};
+ghost use Prim.Native.Nat.{_*_};
 ghost use lib.ListN.{length};
+ghost use Rattle.laws.specs.Choice.{_=?_};
 ghost use Rattle.picture.specs.Cursor.{told};
+ghost use Rattle.handset.specs.Refusals.{_before_, _unless_};
 ghost use Rattle.handset.specs.Draw.{drawRefusal, drawCursor, drawnPicture};
 use crate::refusal::NO_PICTURE;
 use crate::refusal::session_refusal;
@@ -16,15 +19,14 @@ pub struct Drawn {
     pub cursor: EditCursor,
 }
 
-// The refusal number, 0 for none, for a picture of so many bytes.
-fn draw_refusal(image: &[u8], sheet: usize, session: Session, length: usize) -> u8
-    ensures { λ r. ⌜ r ≡ drawRefusal (now (image .entry)) sheet session length ⌝ }
+// The refusal number, 0 for none, where that of image, sheet and session is known; the picture has so many bytes.
+fn draw_refusal(refusal: u8, columns: u8, lines: u8, length: usize) -> u8
+    ensures { λ r. ⌜ r ≡ (refusal before (1 unless (length =? columns * lines))) ⌝ }
 {
-    let refusal = session_refusal(image, sheet, session);
     if refusal != 0 {
         return refusal;
     }
-    if length == session.columns as usize * session.lines as usize {
+    if length == columns as usize * lines as usize {
         return 0;
     }
     NO_PICTURE
@@ -35,7 +37,8 @@ pub fn draw(image: &[u8], sheet: &[u8], session: Session, picture: &mut [u8]) ->
     ensures { λ r. ⌜ told (r .cursor) ≡ drawCursor (now (image .entry)) (length (now (sheet .entry))) session (length (now (picture .entry))) ⌝ }
     ensures { λ _. ⌜ now (picture .exit) ≡ drawnPicture (now (image .entry)) (now (sheet .entry)) session (now (picture .entry)) ⌝ }
 {
-    let refusal = draw_refusal(image, sheet.len(), session, picture.len());
+    let unfit = session_refusal(image, sheet.len(), session);
+    let refusal = draw_refusal(unfit, session.columns, session.lines, picture.len());
     if refusal != 0 {
         return Drawn {
             refusal,

@@ -1,19 +1,21 @@
 // The call Event: takes the session in and hands the next one back, with an answer.
 ghost use mathlib.Core.Path.{_≡_};
 ghost use lib.ListN.{length};
+ghost use Rattle.laws.specs.Choice.{_≤?_};
+ghost use Rattle.session.specs.Events.{second};
 ghost use Rattle.session.specs.Steps.{told};
-ghost use Rattle.handset.specs.Event.{eventRefusal, refusedWith, eventStep, eventTold, eventSheet};
+ghost use Rattle.handset.specs.Refusals.{_before_, _unless_};
+ghost use Rattle.handset.specs.Event.{eventStep, eventTold, eventSheet};
 use crate::refusal::NO_EVENT;
 use crate::refusal::session_refusal;
 use session::session::Session;
 use session::step::Answer;
 use session::step::Stepped;
 
-// The refusal number, 0 for none.
-fn event_refusal(image: &[u8], sheet: usize, session: Session, event: u8) -> u8
-    ensures { λ r. ⌜ r ≡ eventRefusal (now (image .entry)) sheet session event ⌝ }
+// The refusal number, 0 for none, where that of image, sheet and session is known.
+pub fn event_refusal(refusal: u8, event: u8) -> u8
+    ensures { λ r. ⌜ r ≡ (refusal before (13 unless (event ≤? second))) ⌝ }
 {
-    let refusal = session_refusal(image, sheet, session);
     if refusal != 0 {
         return refusal;
     }
@@ -29,7 +31,8 @@ pub fn event(image: &[u8], sheet: &mut [u8], session: Session, event: u8) -> Ste
     ensures { λ r. ⌜ told (r .answer) ≡ eventTold (now (image .entry)) (now (sheet .entry)) session event ⌝ }
     ensures { λ _. ⌜ now (sheet .exit) ≡ eventSheet (now (image .entry)) (now (sheet .entry)) session event ⌝ }
 {
-    let refusal = event_refusal(image, sheet.len(), session, event);
+    let unfit = session_refusal(image, sheet.len(), session);
+    let refusal = event_refusal(unfit, event);
     if refusal != 0 {
         return Stepped {
             session,
