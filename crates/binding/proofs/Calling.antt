@@ -16,7 +16,8 @@ use Rattle.walk.specs.Check.{refusalOf}
 use Rattle.cmf.specs.Readers.{itemFrom, itemPlace}
 use Rattle.session.specs.Session.{closed}
 use Rattle.session.specs.Fits.{shapeFits, sessionFits}
-use Rattle.session.specs.Steps.{isRefused, told}
+use Rattle.session.specs.Event.{stepOf, sheetOf}
+use Rattle.session.specs.Steps.{told}
 use Rattle.session.specs.declared.session.Session.{Session}
 use Rattle.session.specs.declared.step.Stepped.{Stepped}
 use Rattle.session.proofs.Closed.{closed-never-fits}
@@ -28,11 +29,11 @@ use Rattle.handset.specs.OptionText.{textRefusal, optionText}
 use Rattle.handset.specs.declared.open.Opened.{Opened}
 use Rattle.handset.proofs.Items.{item-is}
 use Rattle.handset.proofs.Ordering.{first-given, next-given, holding, failing, none-before, Granted, session-granted}
-use Rattle.handset.proofs.Stepping.{event-granted}
+use Rattle.handset.proofs.Stepping.{event-granted, refused-step, refused-sheet, stepped, stepped-sheet}
 use Rattle.binding.specs.Layout.{sessionBytes, sessionIn, sessionFrom}
 use Rattle.binding.specs.Answers.{refusedBy, placeOf, cursorNumber}
 use Rattle.binding.specs.Calls.{openNumber, openedSheet, openedBytes, openedSession, eventNumber, eventBytes, drawNumber, textNumber}
-use Rattle.binding.proofs.Answering.{Plain, step-plain, short, cursor-plain}
+use Rattle.binding.proofs.Answering.{step-plain, short, cursor-plain}
 
 -- ---- a session written to a buffer of its length
 
@@ -107,33 +108,6 @@ module _ (im sheet : List ℕ) (columns lines n : ℕ) where
 
 -- ---- Event
 
-module _ (im sheet : List ℕ) (s : Session) (e : ℕ) (r : Stepped) (q : r ≡ eventStep im sheet s e) where
-  -- what the answer says of the refusal
-  pub record Told : Type 0 where
-    pub refused : isRefused (r .answer) ≡ true → eventRefusal im (length sheet) s e ≡ 0 → ⊥
-    pub given : isRefused (r .answer) ≡ false → eventRefusal im (length sheet) s e ≡ 0
-    pub place : placeOf (r .answer) < 65536
-
-  answer-given : eventRefusal im (length sheet) s e ≡ 0 → Plain 32768 r
-  unfolding eventStep
-  answer-given z = rw (q, if-eq _ 0 _ _ z) (step-plain im sheet s e (event-granted im (length sheet) s e z .granted))
-
-  answer-refused : (eventRefusal im (length sheet) s e ≡ 0 → ⊥) → r ≡ refusedWith s (eventRefusal im (length sheet) s e)
-  unfolding eventStep
-  answer-refused h = q ∙ if-ne _ 0 _ _ h
-
-  pub answer-told : Told
-  unfolding placeOf
-  answer-told = go (ℕ-discrete (eventRefusal im (length sheet) s e) 0)
-    where
-      go : Dec (eventRefusal im (length sheet) s e ≡ 0) → Told
-      go (yes z) =
-          let p = answer-given z in
-          record { refused = λ h _. false≢true (sym (p .given) ∙ h); given = λ _. z; place = omega (arith, p .near) }
-      go (no h) =
-          let p = answer-refused h in
-          record { refused = λ _ z. h z; given = λ k. absurd (false≢true (sym (rw p at k))); place = rw p (omega arith) }
-
 -- a buffer of another length is a session that never fits
 sized : (im bs : List ℕ) (sheet : ℕ) → Granted im sheet (sessionFrom bs) → length bs ≡ 230
 unfolding sessionFrom
@@ -144,33 +118,61 @@ sized im bs sheet g = go (ℕ-discrete (length bs) 230)
     go (no h) =
         absurd (false≢true (sym (closed-never-fits im) ∙ ap (λ (s : Session). sessionFits im s) (sym (if-ne (length bs) 230 (sessionIn bs) closed h)) ∙ g .fits))
 
-module _ (im sheet bs : List ℕ) (e : ℕ) where
-  pub bytes-refused : (eventRefusal im (length sheet) (sessionFrom bs) e ≡ 0 → ⊥) → bs ≡ eventBytes im sheet bs e
-  unfolding eventBytes
-  bytes-refused h = sym (if-ne _ 0 _ _ h)
+module _ (im sheet bs : List ℕ) (e k : ℕ) {s : Session} (p : s ≡ sessionFrom bs) (g : k ≡ eventRefusal im (length sheet) s e) where
+  q : k ≡ eventRefusal im (length sheet) (sessionFrom bs) e
+  q = rw p at g
 
-  pub bytes-stepped : (t : List ℕ) (r : Stepped) → eventRefusal im (length sheet) (sessionFrom bs) e ≡ 0 → r ≡ eventStep im sheet (sessionFrom bs) e
-      → length (sessionBytes (r .session)) ≡ 230 → t ≡ over bs 0 (sessionBytes (r .session)) → t ≡ eventBytes im sheet bs e
-  unfolding eventBytes
-  bytes-stepped t r z q k f =
-      written bs t (r .session) (sized im bs (length sheet) (event-granted im (length sheet) (sessionFrom bs) e z .granted)) k f
-      ∙ ap (λ (x : Stepped). sessionBytes (x .session)) q ∙ sym (if-eq _ 0 _ _ z)
+  -- a refused Event leaves sheet and bytes
+  module _ (h : k ≡ 0 → ⊥) where
+    kept : refusedWith (sessionFrom bs) k ≡ eventStep im sheet (sessionFrom bs) e
+    kept = refused-step im sheet (sessionFrom bs) e k q h
 
-  pub session-kept : (eventRefusal im (length sheet) (sessionFrom bs) e ≡ 0 → ⊥) → sessionFrom bs ≡ eventStep im sheet (sessionFrom bs) e .session
-  unfolding eventStep
-  session-kept h = sym (ap (λ (x : Stepped). x .session) (if-ne _ 0 _ _ h))
+    pub number-refused : (n : ℕ) → n ≡ refusedBy k → n ≡ eventNumber im sheet bs e
+    unfolding eventNumber eventTold refusedBy told
+    number-refused n f = f ∙ if-ne k 0 _ _ h ∙ ap (λ (x : Stepped). told (x .answer)) kept
 
-  pub session-next : (t : List ℕ) (r : Stepped) → eventRefusal im (length sheet) (sessionFrom bs) e ≡ 0 → r ≡ eventStep im sheet (sessionFrom bs) e
-      → length (sessionBytes (r .session)) ≡ 230 → t ≡ over bs 0 (sessionBytes (r .session)) → sessionFrom (sessionBytes (r .session)) ≡ r .session
-      → sessionFrom t ≡ eventStep im sheet (sessionFrom bs) e .session
-  session-next t r z q k f b =
-      ap (λ (l : List ℕ). sessionFrom l)
-      (written bs t (r .session) (sized im bs (length sheet) (event-granted im (length sheet) (sessionFrom bs) e z .granted)) k f)
-      ∙ b ∙ ap (λ (x : Stepped). x .session) q
+    pub sheet-refused : sheet ≡ eventSheet im sheet (sessionFrom bs) e
+    sheet-refused = refused-sheet im sheet (sessionFrom bs) e k q h
 
-  pub number-told : (n : ℕ) (r : Stepped) → n ≡ told (r .answer) → r ≡ eventStep im sheet (sessionFrom bs) e → n ≡ eventNumber im sheet bs e
-  unfolding eventNumber eventTold
-  number-told n r h q = h ∙ ap (λ (x : Stepped). told (x .answer)) q
+    pub bytes-refused : bs ≡ eventBytes im sheet bs e
+    unfolding eventBytes
+    bytes-refused = sym (rw (← q) (if-ne k 0 _ _ h))
+
+    pub session-kept : sessionFrom bs ≡ eventStep im sheet (sessionFrom bs) e .session
+    session-kept = ap (λ (x : Stepped). x .session) kept
+
+  -- another steps, and its session has the room that it needs
+  module _ (z : k ≡ 0) where
+    granted : Granted im (length sheet) (sessionFrom bs)
+    granted = event-granted im (length sheet) (sessionFrom bs) e (sym q ∙ z) .granted
+
+    pub room : length bs ≡ 230
+    room = sized im bs (length sheet) granted
+
+    pub sheet-stepped : (t : List ℕ) → t ≡ sheetOf im sheet s e → t ≡ eventSheet im sheet (sessionFrom bs) e
+    sheet-stepped t f = rw p at f ∙ stepped-sheet im sheet (sessionFrom bs) e k q z
+
+    module _ (r : Stepped) (f : r ≡ stepOf im sheet s e) where
+      step : r ≡ stepOf im sheet (sessionFrom bs) e
+      step = rw p at f
+
+      next : r ≡ eventStep im sheet (sessionFrom bs) e
+      next = step ∙ stepped im sheet (sessionFrom bs) e k q z
+
+      pub place-near : placeOf (r .answer) < 65536
+      place-near = rw step (omega (arith, step-plain im sheet (sessionFrom bs) e granted .near))
+
+      pub number-stepped : (n : ℕ) → n ≡ told (r .answer) → n ≡ eventNumber im sheet bs e
+      unfolding eventNumber eventTold
+      number-stepped n h = h ∙ ap (λ (x : Stepped). told (x .answer)) next
+
+      module _ (t : List ℕ) (w : t ≡ sessionBytes (r .session)) where
+        pub bytes-stepped : t ≡ eventBytes im sheet bs e
+        unfolding eventBytes
+        bytes-stepped = w ∙ ap (λ (x : Stepped). sessionBytes (x .session)) next ∙ sym (rw (← q) (if-eq k 0 _ _ z))
+
+        pub session-next : sessionFrom (sessionBytes (r .session)) ≡ r .session → sessionFrom t ≡ eventStep im sheet (sessionFrom bs) e .session
+        session-next b = ap (λ (l : List ℕ). sessionFrom l) w ∙ b ∙ ap (λ (x : Stepped). x .session) next
 
 -- ---- Draw
 
@@ -229,13 +231,6 @@ module _ (im : List ℕ) (sheet place item k : ℕ) (q : k ≡ textRefusal im sh
   text-given p text z e f = rw (e, f) (sym (rw (← q) (if-eq k 0 _ _ z)))
 
 -- ---- what a call ensures of a session that was taken from bytes
-
-module _ (im sheet : List ℕ) (e : ℕ) where
-  pub step-from : {s : Session} (r : Stepped) (u : Session) → s ≡ u → r ≡ eventStep im sheet s e → r ≡ eventStep im sheet u e
-  step-from r u q h = rw q at h
-
-  pub sheet-from : {s : Session} (t : List ℕ) (u : Session) → s ≡ u → t ≡ eventSheet im sheet s e → t ≡ eventSheet im sheet u e
-  sheet-from t u q h = rw q at h
 
 module _ (im : List ℕ) (sheet n : ℕ) where
   pub refusal-from : {s : Session} (k : ℕ) (u : Session) → s ≡ u → k ≡ drawRefusal im sheet s n → k ≡ drawRefusal im sheet u n

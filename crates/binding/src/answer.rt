@@ -3,7 +3,6 @@ ghost use mathlib.Core.Path.{_≡_};
 ghost use Prim.Native.Nat.{_<_};
 ghost use Rattle.session.specs.Steps.{told};
 ghost use Rattle.picture.specs.Cursor as cursor_at;
-ghost use Rattle.session.specs.Steps.{isRefused};
 ghost use Rattle.binding.specs.Answers.{refusedBy, placeOf, cursorNumber};
 use picture::cursor::EditCursor;
 use session::step::Answer;
@@ -24,18 +23,6 @@ pub(crate) fn refused_by(refusal: u8) -> u32
         return 0;
     }
     REFUSED + refusal as u32
-}
-
-pub(crate) fn is_refused(answer: Answer) -> bool
-    ensures { λ r. ⌜ r ≡ isRefused answer ⌝ }
-{
-    match answer {
-        Answer::Taken => false,
-        Answer::Flash => false,
-        Answer::Finished(_) => false,
-        Answer::Fired(_) => false,
-        Answer::Refused(_) => true,
-    }
 }
 
 // What an event answered.

@@ -9,15 +9,16 @@ ghost use Rattle.handset.specs.Event.{eventStep, eventSheet};
 ghost use Rattle.handset.specs.Draw.{drawnPicture};
 use crate::answer::REFUSED;
 use crate::answer::cursor_number;
-use crate::answer::is_refused;
 use crate::answer::refused_by;
 use crate::answer::told;
 use crate::layout::SIZE;
 use crate::read::read_session;
 use crate::write::write_session;
+use crate::write::write_sized;
 use cmf::text::item_place;
 use field::kind::ImagePlace;
 use handset::draw::draw;
+use handset::event::event_refusal;
 use handset::open::open;
 use handset::option::option_text;
 use handset::refusal::NO_SHAPE;
@@ -72,15 +73,17 @@ pub extern "C" fn handset_event(
     ensures { λ _. ⌜ now (session .exit) ≡ eventBytes (now (image .entry)) (now (sheet .entry)) (now (session .entry)) event ⌝ }
     ensures { λ _. ⌜ sessionFrom (now (session .exit)) ≡ eventStep (now (image .entry)) (now (sheet .entry)) (sessionFrom (now (session .entry))) event .session ⌝ }
 {
+    // The parts of `event`: a session that is handed to it whole is copied once more.
     let before = read_session(&*session);
-    let stepped = handset::event::event(image, &mut *sheet, before, event);
-    let answer = stepped.answer;
-    let refused = is_refused(answer);
-    if refused {
-        return told(answer);
+    let unfit = session_refusal(image, sheet.len(), before);
+    let refused = event_refusal(unfit, event);
+    if refused != 0 {
+        return refused_by(refused);
     }
+    let stepped = before.step(image, &mut *sheet, event);
+    let answer = stepped.answer;
     let next = stepped.session;
-    write_session(&mut *session, next);
+    write_sized(&mut *session, next);
     told(answer)
 }
 

@@ -6,7 +6,6 @@ ghost use lib.ListN.{length};
 ghost use Rattle.laws.specs.Overwrite.{over};
 ghost use Rattle.laws.specs.Digits.{lowFirst};
 ghost use Rattle.binding.specs.Numbers.{numberAt};
-use crate::layout::SIZE;
 
 // The number of the four bytes at a place.
 pub(crate) fn cell_at(bytes: &[u8], at: usize) -> u32
@@ -27,15 +26,15 @@ pub(crate) fn place_at(bytes: &[u8], at: usize) -> u64
     cell_at(bytes, at) as u64 + 4294967296 * cell_at(bytes, at + 4) as u64
 }
 
-pub(crate) fn write_byte(bytes: &mut [u8; SIZE], at: usize, x: u8)
-    requires { ⌜ at < 230 ⌝ }
+pub(crate) fn write_byte(bytes: &mut [u8], at: usize, x: u8)
+    requires { ⌜ at < length (now bytes) ⌝ }
     ensures { λ _. ⌜ now (bytes .exit) ≡ over (now (bytes .entry)) at (x ∷ []) ⌝ }
 {
     bytes[at] = x;
 }
 
-pub(crate) fn write_cell(bytes: &mut [u8; SIZE], at: usize, x: u32)
-    requires { ⌜ at + 4 ≤ 230 ⌝ }
+pub(crate) fn write_cell(bytes: &mut [u8], at: usize, x: u32)
+    requires { ⌜ at + 4 ≤ length (now bytes) ⌝ }
     ensures { λ _. ⌜ now (bytes .exit) ≡ over (now (bytes .entry)) at (lowFirst 4 x) ⌝ }
 {
     bytes[at] = (x % 256) as u8;
@@ -44,8 +43,8 @@ pub(crate) fn write_cell(bytes: &mut [u8; SIZE], at: usize, x: u32)
     bytes[at + 3] = (x / 16777216) as u8;
 }
 
-pub(crate) fn write_place(bytes: &mut [u8; SIZE], at: usize, x: u64)
-    requires { ⌜ at + 8 ≤ 230 ⌝ }
+pub(crate) fn write_place(bytes: &mut [u8], at: usize, x: u64)
+    requires { ⌜ at + 8 ≤ length (now bytes) ⌝ }
     ensures { λ _. ⌜ now (bytes .exit) ≡ over (now (bytes .entry)) at (lowFirst 8 x) ⌝ }
 {
     write_cell(&mut *bytes, at, (x % 4294967296) as u32);

@@ -1,4 +1,4 @@
-// A session written to bytes, piece by piece: whole first, so that no piece asks how many bytes the caller has.
+// A session written to bytes, piece by piece. All its bytes are there, so that no piece asks how many the caller has.
 ghost use mathlib.Core.Path.{_≡_};
 ghost use mathlib.Core.List.{[], _∷_};
 ghost use Prim.Native.Nat.{_+_, _≤_};
@@ -26,8 +26,8 @@ use session::session::Level;
 use session::session::Mode;
 use session::session::Session;
 
-fn write_level(bytes: &mut [u8; SIZE], at: usize, level: Level)
-    requires { ⌜ at + 10 ≤ 230 ⌝ }
+fn write_level(bytes: &mut [u8], at: usize, level: Level)
+    requires { ⌜ at + 10 ≤ length (now bytes) ⌝ }
     ensures { λ _. ⌜ now (bytes .exit) ≡ over (now (bytes .entry)) at (levelBytes level) ⌝ }
 {
     let table = level.table;
@@ -36,7 +36,8 @@ fn write_level(bytes: &mut [u8; SIZE], at: usize, level: Level)
     write_byte(&mut *bytes, at + 9, level.first);
 }
 
-fn write_levels(bytes: &mut [u8; SIZE], levels: [Level; 7])
+fn write_levels(bytes: &mut [u8], levels: [Level; 7])
+    requires { ⌜ length (now bytes) ≡ 230 ⌝ }
     ensures { λ _. ⌜ now (bytes .exit) ≡ over (now (bytes .entry)) 3 (levelsBytes levels) ⌝ }
 {
     let mut i = 0;
@@ -46,7 +47,8 @@ fn write_levels(bytes: &mut [u8; SIZE], levels: [Level; 7])
     }
 }
 
-fn write_mode(bytes: &mut [u8; SIZE], mode: Mode)
+fn write_mode(bytes: &mut [u8], mode: Mode)
+    requires { ⌜ length (now bytes) ≡ 230 ⌝ }
     ensures { λ _. ⌜ now (bytes .exit) ≡ over (now (bytes .entry)) 84 (modeBytes mode) ⌝ }
 {
     match mode {
@@ -65,7 +67,8 @@ fn write_mode(bytes: &mut [u8; SIZE], mode: Mode)
     }
 }
 
-fn write_cells(bytes: &mut [u8; SIZE], cells: [u32; 32])
+fn write_cells(bytes: &mut [u8], cells: [u32; 32])
+    requires { ⌜ length (now bytes) ≡ 230 ⌝ }
     ensures { λ _. ⌜ now (bytes .exit) ≡ over (now (bytes .entry)) 94 (numbersBytes 4 cells) ⌝ }
 {
     let mut i = 0;
@@ -75,7 +78,8 @@ fn write_cells(bytes: &mut [u8; SIZE], cells: [u32; 32])
     }
 }
 
-fn write_typed(bytes: &mut [u8; SIZE], digits: [u8; 8])
+fn write_typed(bytes: &mut [u8], digits: [u8; 8])
+    requires { ⌜ length (now bytes) ≡ 230 ⌝ }
     ensures { λ _. ⌜ now (bytes .exit) ≡ over (now (bytes .entry)) 222 (numbersBytes 1 digits) ⌝ }
 {
     let mut i = 0;
@@ -85,7 +89,8 @@ fn write_typed(bytes: &mut [u8; SIZE], digits: [u8; 8])
     }
 }
 
-fn write_shape(bytes: &mut [u8; SIZE], columns: u8, lines: u8, outer: u8)
+fn write_shape(bytes: &mut [u8], columns: u8, lines: u8, outer: u8)
+    requires { ⌜ length (now bytes) ≡ 230 ⌝ }
     ensures { λ _. ⌜ now (bytes .exit) ≡ over (now (bytes .entry)) 0 (columns ∷ lines ∷ outer ∷ []) ⌝ }
 {
     write_byte(&mut *bytes, 0, columns);
@@ -94,7 +99,8 @@ fn write_shape(bytes: &mut [u8; SIZE], columns: u8, lines: u8, outer: u8)
 }
 
 // What is shown: the display's shape, the open tables, the idle count.
-fn write_shown(bytes: &mut [u8; SIZE], session: Session)
+fn write_shown(bytes: &mut [u8], session: Session)
+    requires { ⌜ length (now bytes) ≡ 230 ⌝ }
     ensures { λ _. ⌜ now (bytes .exit) ≡ over (now (bytes .entry)) 0 (shownBytes session) ⌝ }
 {
     let above = session.above;
@@ -106,7 +112,8 @@ fn write_shown(bytes: &mut [u8; SIZE], session: Session)
 }
 
 // What is done: the mode, the working copy, the digits typed.
-fn write_doing(bytes: &mut [u8; SIZE], session: Session)
+fn write_doing(bytes: &mut [u8], session: Session)
+    requires { ⌜ length (now bytes) ≡ 230 ⌝ }
     ensures { λ _. ⌜ now (bytes .exit) ≡ over (now (bytes .entry)) 84 (doingBytes session) ⌝ }
 {
     let mode = session.mode;
@@ -117,6 +124,16 @@ fn write_doing(bytes: &mut [u8; SIZE], session: Session)
     write_byte(&mut *bytes, CHOSEN, work.at);
     write_cells(&mut *bytes, cells);
     write_typed(&mut *bytes, typed);
+}
+
+// Into bytes of a session's length.
+pub(crate) fn write_sized(bytes: &mut [u8], session: Session)
+    requires { ⌜ length (now bytes) ≡ 230 ⌝ }
+    ensures { λ _. ⌜ now (bytes .exit) ≡ sessionBytes session ⌝ }
+    ensures { λ _. ⌜ sessionFrom (sessionBytes session) ≡ session ⌝ }
+{
+    write_shown(&mut *bytes, session);
+    write_doing(&mut *bytes, session);
 }
 
 // As many of the bytes as there is room for.
@@ -137,7 +154,6 @@ pub fn write_session(bytes: &mut [u8], session: Session)
     ensures { λ _. ⌜ sessionFrom (sessionBytes session) ≡ session ⌝ }
 {
     let mut whole = [0; SIZE];
-    write_shown(&mut whole, session);
-    write_doing(&mut whole, session);
+    write_sized(&mut whole, session);
     write_bytes(&mut *bytes, whole);
 }

@@ -4,11 +4,14 @@ use borrow.Author.Needs.{needs}
 use Rattle.binding.proofs.number.write_byte.Statement.{statement}
 use Rattle.binding.proofs.number.write_byte.Tie as tie
 
-element-write-bytes : tie.Need-element-write-bytes
-element-write-bytes c = search needs
+slice-write-bytes : tie.Need-slice-write-bytes
+slice-write-bytes c = search needs
+
+same-length : tie.Need-same-length
+same-length c = search needs
 
 returns : tie.Need-returns
 returns c = byte-put (c .args .bytes .now) (c .args .at) (c .args .x)
 
 pub write-byte-spec : {M : Type 1} → statement M
-write-byte-spec = tie.close (tie.spec element-write-bytes returns)
+write-byte-spec = tie.close (tie.spec slice-write-bytes same-length returns)

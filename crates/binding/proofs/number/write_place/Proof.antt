@@ -24,8 +24,11 @@ cast-write-cell-2 c = search needs
 write-cell-requires-2 : tie.Need-write-cell-requires-2
 write-cell-requires-2 c κs = search needs
 
+same-length : tie.Need-same-length
+same-length c = search needs
+
 returns : tie.Need-returns
-returns c = rw (← eight-low (c .before .before .before .before .args .x)) (joined _ (c .before .before .before .before .args .at) (c .before .before .before .before .args .at + 4) (lowFirst 4 (c .before .before .before .before .args .x % 4294967296)) (lowFirst 4 (c .before .before .before .before .args .x / 4294967296)) (c .before .before .write-cell .ensures) (c .write-cell2 .ensures) (omega (arith, length-low 4 (c .before .before .before .before .args .x % 4294967296))))
+returns c = rw (← eight-low (c .before .before .before .before .before .before .before .before .before .args .x)) (joined _ (c .before .before .before .before .before .before .before .before .before .args .at) (c .before .before .before .before .before .before .before .before .before .args .at + 4) (lowFirst 4 (c .before .before .before .before .before .before .before .before .before .args .x % 4294967296)) (lowFirst 4 (c .before .before .before .before .before .before .before .before .before .args .x / 4294967296)) (c .before .before .before .before .before .before .write-cell .ensures) (c .before .before .write-cell2 .ensures) (omega (arith, length-low 4 (c .before .before .before .before .before .before .before .before .before .args .x % 4294967296))))
 
 pub write-place-spec : {M : Type 1} → statement M
 write-place-spec =
@@ -36,4 +39,5 @@ write-place-spec =
     add-write-cell
     cast-write-cell-2
     write-cell-requires-2
+    same-length
     returns)

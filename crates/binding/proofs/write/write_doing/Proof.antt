@@ -22,9 +22,12 @@ write-cells-requires c κs = search needs
 write-typed-requires : tie.Need-write-typed-requires
 write-typed-requires c κs = search needs
 
+same-length : tie.Need-same-length
+same-length c = search needs
+
 returns : tie.Need-returns
 unfolding doingBytes
-returns c = joined _ 84 93 (modeBytes (c .before .before .before .before .before .before .before .before .before .before .before .args .session .mode)) ((c .before .before .before .before .before .before .before .before .before .before .before .args .session .work .at ∷ []) ++ (numbersBytes 4 (c .before .before .before .before .before .before .before .before .before .before .before .args .session .work .cells) ++ numbersBytes 1 (c .before .before .before .before .before .before .before .before .before .before .before .args .session .typed))) (c .before .before .before .before .before .before .write-mode .ensures) (joined _ 93 94 (c .before .before .before .before .before .before .before .before .before .before .before .args .session .work .at ∷ []) (numbersBytes 4 (c .before .before .before .before .before .before .before .before .before .before .before .args .session .work .cells) ++ numbersBytes 1 (c .before .before .before .before .before .before .before .before .before .before .before .args .session .typed)) (c .before .before .before .before .write-byte .ensures) (joined _ 94 222 (numbersBytes 4 (c .before .before .before .before .before .before .before .before .before .before .before .args .session .work .cells)) (numbersBytes 1 (c .before .before .before .before .before .before .before .before .before .before .before .args .session .typed)) (c .before .before .write-cells .ensures) (c .write-typed .ensures) (omega (arith, length-numbers 4 (c .before .before .before .before .before .before .before .before .before .before .before .args .session .work .cells), cells-length (c .before .before .before .before .before .before .before .before .before .before .before .args .session) _ (c .before .before .before .before .before .before .before .before .before .before .before .good .1 .0)))) refl) (omega (arith, length-mode (c .before .before .before .before .before .before .before .before .before .before .before .args .session .mode)))
+returns c = joined _ 84 93 (modeBytes (c .before .before .before .before .before .before .before .before .before .before .before .before .before .before .before .before .before .before .before .before .args .session .mode)) ((c .before .before .before .before .before .before .before .before .before .before .before .before .before .before .before .before .before .before .before .before .args .session .work .at ∷ []) ++ (numbersBytes 4 (c .before .before .before .before .before .before .before .before .before .before .before .before .before .before .before .before .before .before .before .before .args .session .work .cells) ++ numbersBytes 1 (c .before .before .before .before .before .before .before .before .before .before .before .before .before .before .before .before .before .before .before .before .args .session .typed))) (c .before .before .before .before .before .before .before .before .before .before .before .before .before .before .write-mode .ensures) (joined _ 93 94 (c .before .before .before .before .before .before .before .before .before .before .before .before .before .before .before .before .before .before .before .before .args .session .work .at ∷ []) (numbersBytes 4 (c .before .before .before .before .before .before .before .before .before .before .before .before .before .before .before .before .before .before .before .before .args .session .work .cells) ++ numbersBytes 1 (c .before .before .before .before .before .before .before .before .before .before .before .before .before .before .before .before .before .before .before .before .args .session .typed)) (c .before .before .before .before .before .before .before .before .before .before .write-byte .ensures) (joined _ 94 222 (numbersBytes 4 (c .before .before .before .before .before .before .before .before .before .before .before .before .before .before .before .before .before .before .before .before .args .session .work .cells)) (numbersBytes 1 (c .before .before .before .before .before .before .before .before .before .before .before .before .before .before .before .before .before .before .before .before .args .session .typed)) (c .before .before .before .before .before .before .write-cells .ensures) (c .before .before .write-typed .ensures) (omega (arith, length-numbers 4 (c .before .before .before .before .before .before .before .before .before .before .before .before .before .before .before .before .before .before .before .before .args .session .work .cells), cells-length (c .before .before .before .before .before .before .before .before .before .before .before .before .before .before .before .before .before .before .before .before .args .session) _ (c .before .before .before .before .before .before .before .before .before .before .before .before .before .before .before .before .before .before .before .before .good .1 .0)))) refl) (omega (arith, length-mode (c .before .before .before .before .before .before .before .before .before .before .before .before .before .before .before .before .before .before .before .before .args .session .mode)))
 
 pub write-doing-spec : {M : Type 1} → statement M
 write-doing-spec =
@@ -34,4 +37,5 @@ write-doing-spec =
     write-byte-requires
     write-cells-requires
     write-typed-requires
+    same-length
     returns)

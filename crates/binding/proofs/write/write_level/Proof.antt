@@ -25,9 +25,12 @@ add-write-byte-2 c = search needs
 write-byte-requires-2 : tie.Need-write-byte-requires-2
 write-byte-requires-2 c κs = search needs
 
+same-length : tie.Need-same-length
+same-length c = search needs
+
 returns : tie.Need-returns
 unfolding levelBytes
-returns c = joined _ (c .before .before .before .before .before .before .before .args .at) (c .before .before .before .before .before .before .before .args .at + 8) (lowFirst 8 (c .before .before .before .before .before .before .before .args .level .table .0)) (c .before .before .before .before .before .before .before .args .level .cursor ∷ c .before .before .before .before .before .before .before .args .level .first ∷ []) (c .before .before .before .before .write-place .ensures) (joined _ (c .before .before .before .before .before .before .before .args .at + 8) (c .before .before .before .before .before .before .before .args .at + 9) (c .before .before .before .before .before .before .before .args .level .cursor ∷ []) (c .before .before .before .before .before .before .before .args .level .first ∷ []) (c .before .before .write-byte .ensures) (c .write-byte2 .ensures) (omega arith)) (omega (arith, length-low 8 (c .before .before .before .before .before .before .before .args .level .table .0)))
+returns c = joined _ (c .before .before .before .before .before .before .before .before .before .before .before .before .before .before .args .at) (c .before .before .before .before .before .before .before .before .before .before .before .before .before .before .args .at + 8) (lowFirst 8 (c .before .before .before .before .before .before .before .before .before .before .before .before .before .before .args .level .table .0)) (c .before .before .before .before .before .before .before .before .before .before .before .before .before .before .args .level .cursor ∷ c .before .before .before .before .before .before .before .before .before .before .before .before .before .before .args .level .first ∷ []) (c .before .before .before .before .before .before .before .before .before .before .write-place .ensures) (joined _ (c .before .before .before .before .before .before .before .before .before .before .before .before .before .before .args .at + 8) (c .before .before .before .before .before .before .before .before .before .before .before .before .before .before .args .at + 9) (c .before .before .before .before .before .before .before .before .before .before .before .before .before .before .args .level .cursor ∷ []) (c .before .before .before .before .before .before .before .before .before .before .before .before .before .before .args .level .first ∷ []) (c .before .before .before .before .before .before .write-byte .ensures) (c .before .before .write-byte2 .ensures) (omega arith)) (omega (arith, length-low 8 (c .before .before .before .before .before .before .before .before .before .before .before .before .before .before .args .level .table .0)))
 
 pub write-level-spec : {M : Type 1} → statement M
 write-level-spec =
@@ -38,4 +41,5 @@ write-level-spec =
     write-byte-requires
     add-write-byte-2
     write-byte-requires-2
+    same-length
     returns)

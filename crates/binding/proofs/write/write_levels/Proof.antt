@@ -11,13 +11,13 @@ use Rattle.binding.proofs.write.write_levels.Statement.{statement}
 use Rattle.binding.proofs.write.write_levels.Tie as tie
 
 abbrev Inv-loop : tie.InvT-loop
-Inv-loop bytes₀ levels i₀ bytes i = (over bytes (3 + 10 * i) (levelsBytes (drop i levels)) ≡ over bytes₀ 3 (levelsBytes levels)) × (length levels ≡ 7)
+Inv-loop bytes₀ levels i₀ bytes i = (over bytes (3 + 10 * i) (levelsBytes (drop i levels)) ≡ over bytes₀ 3 (levelsBytes levels)) × (length levels ≡ 7) × (length bytes ≡ 230)
 
 abbrev μ-loop : tie.MeasureT-loop
 μ-loop bytes₀ levels i₀ bytes i = 7 - i
 
 loop-holds : tie.Need-loop-holds Inv-loop μ-loop
-loop-holds c = (refl, c .good .1 .0 .1 .0 .1)
+loop-holds c = (refl, c .before .good .1 .0 .1 .0 .1, omega arith)
 
 mul-write-level : tie.Need-mul-write-level Inv-loop μ-loop
 mul-write-level c = omega arith
@@ -41,10 +41,13 @@ loop-less : tie.Need-loop-less Inv-loop μ-loop
 loop-less c = omega arith
 
 loop-again : tie.Need-loop-again Inv-loop μ-loop
-loop-again c = (levels-turn (c .before .before .before .before .before .args .t2) (c .before .before .before .before .loop .bytes) (c .before .before .before .before .loop .i) (3 + 10 * c .before .before .before .before .loop .i) _ (3 + 10 * (c .before .before .before .before .loop .i + 1)) (omega arith) (omega arith) (c .write-level .ensures) ∙ c .before .before .before .before .loop .inv .0, c .before .before .before .before .loop .inv .1)
+loop-again c = (levels-turn (c .before .before .before .before .before .before .before .before .args .t2) (c .before .before .before .before .before .before .loop .bytes) (c .before .before .before .before .before .before .loop .i) (3 + 10 * c .before .before .before .before .before .before .loop .i) _ (3 + 10 * (c .before .before .before .before .before .before .loop .i + 1)) (omega arith) (omega arith) (c .before .before .write-level .ensures) ∙ c .before .before .before .before .before .before .loop .inv .0, c .before .before .before .before .before .before .loop .inv .1, omega arith)
+
+same-length : tie.Need-same-length Inv-loop μ-loop
+same-length c = omega arith
 
 returns : tie.Need-returns Inv-loop μ-loop
-returns c = sym (levels-done (c .before .before .args .t2) (c .before .loop .bytes) (c .before .loop .i) (3 + 10 * c .before .loop .i) (omega arith)) ∙ c .before .loop .inv .0
+returns c = sym (levels-done (c .before .before .before .args .t2) (c .before .loop .bytes) (c .before .loop .i) (3 + 10 * c .before .loop .i) (omega arith)) ∙ c .before .loop .inv .0
 
 pub write-levels-spec : {M : Type 1} → statement M
 write-levels-spec =
@@ -61,4 +64,5 @@ write-levels-spec =
     add-i
     loop-less
     loop-again
+    same-length
     returns)

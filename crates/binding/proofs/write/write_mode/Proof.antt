@@ -47,17 +47,26 @@ cast-write-place c = search needs
 write-place-requires-3 : tie.Need-write-place-requires-3
 write-place-requires-3 c κs = search needs
 
+same-length : tie.Need-same-length
+same-length c = search needs
+
 returns : tie.Need-returns
 unfolding modeBytes
-returns c = rw (c .before .before .before .before .enum-told .given .1) (joined _ 84 85 (0 ∷ []) (lowFirst 8 0) (c .before .before .write-byte .ensures) (c .write-place .ensures) refl)
+returns c = rw (c .before .before .before .before .before .before .before .before .enum-told .given .1) (joined _ 84 85 (0 ∷ []) (lowFirst 8 0) (c .before .before .before .before .before .before .write-byte .ensures) (c .before .before .write-place .ensures) refl)
+
+same-length-2 : tie.Need-same-length-2
+same-length-2 c = search needs
 
 returns-2 : tie.Need-returns-2
 unfolding modeBytes
-returns-2 c = rw (c .before .before .before .before .before .mode .given .1) (joined _ 84 85 (1 ∷ []) (lowFirst 8 _) (c .before .before .write-byte2 .ensures) (c .write-place2 .ensures) refl)
+returns-2 c = rw (c .before .before .before .before .before .before .before .before .before .mode .given .1) (joined _ 84 85 (1 ∷ []) (lowFirst 8 _) (c .before .before .before .before .before .before .write-byte2 .ensures) (c .before .before .write-place2 .ensures) refl)
+
+same-length-3 : tie.Need-same-length-3
+same-length-3 c = search needs
 
 returns-3 : tie.Need-returns-3
 unfolding modeBytes
-returns-3 c = rw (c .before .before .before .before .before .mode2 .given .1) (joined _ 84 85 (2 ∷ []) (lowFirst 8 _) (c .before .before .write-byte3 .ensures) (c .write-place3 .ensures) refl)
+returns-3 c = rw (c .before .before .before .before .before .before .before .before .before .mode2 .given .1) (joined _ 84 85 (2 ∷ []) (lowFirst 8 _) (c .before .before .before .before .before .before .write-byte3 .ensures) (c .before .before .write-place3 .ensures) refl)
 
 pub write-mode-spec : {M : Type 1} → statement M
 write-mode-spec =
@@ -76,6 +85,9 @@ write-mode-spec =
     add-write-place-3
     cast-write-place
     write-place-requires-3
+    same-length
     returns
+    same-length-2
     returns-2
+    same-length-3
     returns-3)

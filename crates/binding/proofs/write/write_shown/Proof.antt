@@ -21,9 +21,12 @@ write-level-requires c κs = search needs
 write-byte-requires : tie.Need-write-byte-requires
 write-byte-requires c κs = search needs
 
+same-length : tie.Need-same-length
+same-length c = search needs
+
 returns : tie.Need-returns
 unfolding shownBytes
-returns c = joined _ 0 3 (c .before .before .before .before .before .before .before .before .before .before .args .session .columns ∷ c .before .before .before .before .before .before .before .before .before .before .args .session .lines ∷ c .before .before .before .before .before .before .before .before .before .before .args .session .outer ∷ []) (levelsBytes (c .before .before .before .before .before .before .before .before .before .before .args .session .above) ++ (levelBytes (c .before .before .before .before .before .before .before .before .before .before .args .session .here) ++ (c .before .before .before .before .before .before .before .before .before .before .args .session .idle ∷ []))) (c .before .before .before .before .before .before .write-shape .ensures) (joined _ 3 73 (levelsBytes (c .before .before .before .before .before .before .before .before .before .before .args .session .above)) (levelBytes (c .before .before .before .before .before .before .before .before .before .before .args .session .here) ++ (c .before .before .before .before .before .before .before .before .before .before .args .session .idle ∷ [])) (c .before .before .before .before .write-levels .ensures) (joined _ 73 83 (levelBytes (c .before .before .before .before .before .before .before .before .before .before .args .session .here)) (c .before .before .before .before .before .before .before .before .before .before .args .session .idle ∷ []) (c .before .before .write-level .ensures) (c .write-byte .ensures) (omega (arith, length-level (c .before .before .before .before .before .before .before .before .before .before .args .session .here)))) (omega (arith, length-levels (c .before .before .before .before .before .before .before .before .before .before .args .session .above), above-length (c .before .before .before .before .before .before .before .before .before .before .args .session) _ (c .before .before .before .before .before .before .before .before .before .before .good .1 .0)))) refl
+returns c = joined _ 0 3 (c .before .before .before .before .before .before .before .before .before .before .before .before .before .before .before .before .before .before .before .args .session .columns ∷ c .before .before .before .before .before .before .before .before .before .before .before .before .before .before .before .before .before .before .before .args .session .lines ∷ c .before .before .before .before .before .before .before .before .before .before .before .before .before .before .before .before .before .before .before .args .session .outer ∷ []) (levelsBytes (c .before .before .before .before .before .before .before .before .before .before .before .before .before .before .before .before .before .before .before .args .session .above) ++ (levelBytes (c .before .before .before .before .before .before .before .before .before .before .before .before .before .before .before .before .before .before .before .args .session .here) ++ (c .before .before .before .before .before .before .before .before .before .before .before .before .before .before .before .before .before .before .before .args .session .idle ∷ []))) (c .before .before .before .before .before .before .before .before .before .before .before .before .before .before .write-shape .ensures) (joined _ 3 73 (levelsBytes (c .before .before .before .before .before .before .before .before .before .before .before .before .before .before .before .before .before .before .before .args .session .above)) (levelBytes (c .before .before .before .before .before .before .before .before .before .before .before .before .before .before .before .before .before .before .before .args .session .here) ++ (c .before .before .before .before .before .before .before .before .before .before .before .before .before .before .before .before .before .before .before .args .session .idle ∷ [])) (c .before .before .before .before .before .before .before .before .before .before .write-levels .ensures) (joined _ 73 83 (levelBytes (c .before .before .before .before .before .before .before .before .before .before .before .before .before .before .before .before .before .before .before .args .session .here)) (c .before .before .before .before .before .before .before .before .before .before .before .before .before .before .before .before .before .before .before .args .session .idle ∷ []) (c .before .before .before .before .before .before .write-level .ensures) (c .before .before .write-byte .ensures) (omega (arith, length-level (c .before .before .before .before .before .before .before .before .before .before .before .before .before .before .before .before .before .before .before .args .session .here)))) (omega (arith, length-levels (c .before .before .before .before .before .before .before .before .before .before .before .before .before .before .before .before .before .before .before .args .session .above), above-length (c .before .before .before .before .before .before .before .before .before .before .before .before .before .before .before .before .before .before .before .args .session) _ (c .before .before .before .before .before .before .before .before .before .before .before .before .before .before .before .before .before .before .before .good .1 .0)))) refl
 
 pub write-shown-spec : {M : Type 1} → statement M
 write-shown-spec =
@@ -33,4 +36,5 @@ write-shown-spec =
     write-levels-requires
     write-level-requires
     write-byte-requires
+    same-length
     returns)
