@@ -1,18 +1,18 @@
 -- The rows of a picture, each written where the one before it ends.
-use Prim.Native.Nat.{ℕ, zero, suc, _+_, _-_, _*_, _≤_, _<_, min}
+use Prim.Native.Nat.{ℕ, zero, suc, _+_, _-_, _*_, _≤_, _<_}
 use mathlib.Core.Path.{_≡_, refl, sym, ap, _∙_}
-use mathlib.Core.Bool.{Bool, true, false}
+use mathlib.Core.Bool.{true, false}
 use mathlib.Core.List.{List, [], _∷_, _++_}
 use native.Mathlib.Omega.{arith}
 use native.Mathlib.Nat.{mul-le-mul}
-use lib.ListN.{length, length-append}
-use borrow.Author.Tests.{leb-true, leb-false}
-use Rattle.laws.specs.Choice.{if_then_else_, _<?_, _≤?_}
+use lib.ListN.{length, take, drop, length-append, length-take, length-drop}
+use borrow.Author.Tests.{leb-true}
+use Rattle.laws.specs.Choice.{_<?_}
 use Rattle.laws.specs.Overwrite.{fit, over}
-use Rattle.laws.proofs.Overwriting.{length-fit, over-next, over-nil, over-all}
+use Rattle.laws.proofs.Overwriting.{length-over, length-fit, over-next, over-nil, over-all, over-back}
 use Rattle.laws.proofs.Cases.{if-ind, if-true, if-false, if-eq, if-ne, and-l, and-r}
 use Rattle.cmf.specs.Readers.{textBytes, headAt}
-use Rattle.cmf.specs.Places.{componentsOf}
+use Rattle.cmf.specs.Places.{componentsOf, lineAt, lineCount}
 use Rattle.cmf.specs.declared.head.Head.{Head}
 use Rattle.session.specs.Fits.{leastColumns, mostColumns, leastRows, shapeFits}
 use Rattle.session.specs.declared.session.Session.{Session}
@@ -75,6 +75,13 @@ module _ (im sheet : List ℕ) (s : Session) where
   unfolding rowsFrom
   rows-done count left k p at d h = let z : left - 1 ≡ 0 = omega arith in rw z (over-nil d at)
 
+-- the row's part of the picture, which comes back written
+pub lent-row : (d s : List ℕ) (at w : ℕ) → length s ≡ w → at + w ≤ length d → take at d ++ (s ++ drop (at + w - at) (drop at d)) ≡ over d at s
+lent-row d s at w e h = let z : at + w - at ≡ w = omega arith in rw z (over-back d at w s e h)
+
+pub lent-length : (d : List ℕ) (at w : ℕ) → at + w ≤ length d → length (take (at + w - at) (drop at d)) ≡ w
+lent-length d at w h = omega (arith, length-take (at + w - at) (drop at d), length-drop at d)
+
 -- ---- the whole
 
 length-title : (im : List ℕ) (s : Session) → 4 ≤ s .columns → length (titleRow im s) ≡ s .columns
@@ -89,33 +96,53 @@ length-top im s mode.Browsing h = length-title im s h
 length-top im s (mode.Visit p) h = length-title im s h
 length-top im s (mode.Password n) h = length-fit blank (s .columns) _
 
+-- the first row, and those below it
+pub rows-sum : (c n : ℕ) → 1 ≤ n → c + (n - 1) * c ≡ c * n
+rows-sum c zero q = absurd (omega arith)
+rows-sum c (suc n) q = let z : suc n - 1 ≡ n = omega arith in rw z (omega arith)
+
+-- one row less
+pub rows-less : (c left at total : ℕ) → 1 < left → at + (left - 1) * c ≡ total → at + c + (left - 1 - 1) * c ≡ total
+rows-less c zero at total h e = absurd (omega arith)
+rows-less c (suc zero) at total h e = absurd (omega arith)
+rows-less c (suc (suc n)) at total h e =
+    let y : suc (suc n) - 1 ≡ suc n = omega arith in
+    let z : suc (suc n) - 1 - 1 ≡ n = omega arith in
+    let o : at + suc n * c ≡ total = rw y at e in
+    rw z (omega arith)
+
 -- a picture has columns x lines cells
 pub length-picture : (im sheet : List ℕ) (s : Session) → 4 ≤ s .columns → 1 ≤ s .lines → length (pictureOf im sheet s) ≡ s .columns * s .lines
 unfolding pictureOf rowsBelow
 length-picture im sheet s h l =
     length-append (topRow im s) _
     ∙ rw (length-top im s (s .mode) h, length-rows im sheet s _ (s .lines - 1) _ _ (omega arith)) (rows-sum (s .columns) (s .lines) l)
-  where
-    rows-sum : (c n : ℕ) → 1 ≤ n → c + (n - 1) * c ≡ c * n
-    rows-sum c zero q = absurd (omega arith)
-    rows-sum c (suc n) q = let z : suc n - 1 ≡ n = omega arith in rw z (omega arith)
 
--- what is written in front and what is written behind it may change places
-over-ahead : (d s t : List ℕ) → over (over d (length s) t) 0 s ≡ over (over d 0 s) (length s) t
+-- what is written behind a place, from there on
+drop-over : (d : List ℕ) (at : ℕ) (s : List ℕ) → drop at (over d at s) ≡ over (drop at d) 0 s
 unfolding over
-over-ahead [] s t = refl
-over-ahead (x ∷ d) [] t = over-nil (over (x ∷ d) 0 t) 0
-over-ahead (x ∷ d) (y ∷ s) t = ap (λ (r : List ℕ). y ∷ r) (over-ahead d s t)
+drop-over [] zero s = refl
+drop-over [] (suc at) s = refl
+drop-over (x ∷ d) zero s = refl
+drop-over (x ∷ d) (suc at) s = drop-over d at s
 
--- the rows below row 0, then row 0, onto a picture of that size
-pub picture-whole : (im sheet : List ℕ) (s : Session) (d e f row : List ℕ) → 4 ≤ s .columns → 1 ≤ s .lines → length d ≡ s .columns * s .lines
-    → row ≡ topRow im s → e ≡ over d (s .columns) (rowsBelow im sheet s) → f ≡ over e 0 row → f ≡ pictureOf im sheet s
-unfolding pictureOf
-picture-whole im sheet s d e f row h l n a b g =
-    let c : s .columns ≡ length (topRow im s) = sym (length-top im s (s .mode) h) in
-    let z : length (topRow im s) ≡ 0 + length (topRow im s) = omega arith in
-    g
-    ∙ rw (b, a) (ap (λ (i : ℕ). over (over d i (rowsBelow im sheet s)) 0 (topRow im s)) c ∙ over-ahead d (topRow im s) (rowsBelow im sheet s) ∙ ap (λ (i : ℕ). over (over d 0 (topRow im s)) i (rowsBelow im sheet s)) z ∙ over-next d 0 (topRow im s) (rowsBelow im sheet s) ∙ over-all d (topRow im s ++ rowsBelow im sheet s) (length-picture im sheet s h l ∙ sym n))
+module _ (im sheet : List ℕ) (s : Session) (d : List ℕ) {e : List ℕ} (l : 1 ≤ s .lines) (n : length d ≡ s .columns * s .lines)
+    (b : e ≡ over d (s .columns) (rowsBelow im sheet s)) where
+  -- row 0 is a part of the picture
+  pub top-inside : s .columns ≤ length e
+  top-inside = omega (arith, ap length b, length-over d (s .columns) (rowsBelow im sheet s), rows-sum (s .columns) (s .lines) l)
+
+  below : 2 ≤ s .columns → length (rowsBelow im sheet s) ≡ length (drop (s .columns) d)
+  unfolding rowsBelow
+  below h =
+      omega
+      (arith, length-drop (s .columns) d, rows-sum (s .columns) (s .lines) l, length-rows im sheet s (lineCount im (s .here .table .0)) (s .lines - 1) (s .here .first) (lineAt im (s .here .table .0) (s .here .first)) h)
+
+  -- row 0, and behind it the rows below it
+  pub picture-whole : {row : List ℕ} → 2 ≤ s .columns → row ≡ topRow im s → row ++ drop (s .columns) e ≡ pictureOf im sheet s
+  unfolding pictureOf
+  picture-whole h a =
+      rw (b, a, drop-over d (s .columns) (rowsBelow im sheet s)) (ap (λ (r : List ℕ). topRow im s ++ r) (over-all (drop (s .columns) d) (rowsBelow im sheet s) (below h)))
 
 -- the picture of a display of at most 255 columns and lines
 pub area : (a b : ℕ) → a ≤ 255 → b ≤ 255 → a * b ≤ 65025

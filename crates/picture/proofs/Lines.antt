@@ -2,122 +2,93 @@
 use Prim.Native.Nat.{ℕ, zero, suc, _+_, _-_, _≤_, _<_}
 use mathlib.Core.Path.{_≡_, refl, sym, ap, _∙_}
 use mathlib.Core.Bool.{true, false}
-use mathlib.Core.List.{List, [], _∷_, _++_, append-assoc}
+use mathlib.Core.List.{List, [], _∷_, _++_}
 use native.Mathlib.Omega.{arith}
-use lib.ListN.{length, replicate, length-append}
+use lib.ListN.{length, take, drop, set, replicate, length-take, length-drop}
 use Rattle.laws.specs.Choice.{if_then_else_, _=?_}
 use Rattle.laws.specs.Bytes.{byteAt}
-use Rattle.laws.specs.Overwrite.{fit}
-use Rattle.laws.proofs.Overwriting.{length-fit, fit-take}
+use Rattle.laws.specs.Overwrite.{fit, over}
+use Rattle.laws.proofs.Overwriting.{length-fit}
 use borrow.Author.Tests.{eqb-true, eqb-false}
 use Rattle.laws.proofs.Cases.{if-true, if-false, if-eq, if-ne, by-test}
 use Rattle.cmf.specs.Readers.{textBytes, headAt, componentAt}
 use Rattle.cmf.specs.Places.{componentsFrom, componentsOf, lineAt, lineCount}
 use Rattle.cmf.specs.declared.head.Head.{Head}
 use Rattle.cmf.specs.declared.component.Component.{Component}
-use Rattle.session.specs.Fits.{mostColumns, cursorLine, cursorHead}
+use Rattle.session.specs.Fits.{cursorLine, cursorHead}
 use Rattle.session.specs.Browsing.{firstEditable, lineFromHere}
 use Rattle.session.proofs.Moving.{editable-here, editable-last, editable-next}
 use Rattle.session.specs.declared.browse.Found.{Found}
 use Rattle.session.specs.declared.session.Level.{Level}
 use Rattle.session.specs.declared.session.Session.{Session}
-use Rattle.picture.specs.Row.{kept, Behind}
+use Rattle.picture.specs.Row.{Put}
 use Rattle.picture.specs.Texts.{blank, star, colon, componentText}
-use Rattle.picture.specs.Rows.{greater, editMark, lineNumber, moreMark, titleRow, dot, capitalP, passwordRow, dataText, submenuMark, lineRow}
-use Rattle.picture.proofs.Writing.{kept-short, kept-join, behind, short, row-done}
-
--- ---- cut or padded
-
--- what a row drops is cut anyway
-pub fit-kept : (n : ℕ) (s : List ℕ) → n ≤ mostColumns → kept (fit blank n (kept s)) ≡ fit blank n s
-unfolding kept
-fit-kept n s h = rw (fit-take blank n mostColumns s h) (kept-short (fit blank n s) (omega (arith, length-fit blank n s)))
-
--- a row that is not wider than the display
-whole : (z s : List ℕ) → length s ≤ mostColumns → z ≡ kept s → z ≡ s
-whole z s h e = e ∙ kept-short s h
-
--- ---- whole rows
-
-line-row : {x y u v z d : List ℕ} {m e : ℕ} (w : ℕ) → 2 ≤ w → w ≤ mostColumns → x ≡ [] → Behind x (m ∷ []) y → Behind y d u
-    → v ≡ kept (fit blank (w - 1) u) → Behind v (e ∷ []) z → z ≡ m ∷ (fit blank (w - 2) d ++ (e ∷ []))
-unfolding fit
-line-row {u = u} {v = v} {z = z} {d = d} {m = m} {e = e} w a b q r s f g =
-    let t : u ≡ kept (m ∷ d) = rw q at (behind r s .is) in
-    let k : w - 1 ≡ suc (w - 2) = omega arith in
-    let o : v ≡ fit blank (w - 1) (m ∷ d) = f ∙ rw t (fit-kept (w - 1) (m ∷ d) (omega arith)) in
-    let i : v ≡ m ∷ fit blank (w - 2) d = o ∙ rw k in
-    whole z (m ∷ (fit blank (w - 2) d ++ (e ∷ []))) (omega (arith, length-append (fit blank (w - 2) d) (e ∷ []), length-fit blank (w - 2) d)) (rw i at (g .is))
-
-title-row : {x y u z t : List ℕ} {e : ℕ} (ns : List ℕ) (m w : ℕ) → 4 ≤ w → w ≤ mostColumns → length ns ≡ 2 → x ≡ [] → Behind x t y → u ≡ kept (fit blank (w - 4) y)
-    → Behind u (e ∷ (ns ++ (m ∷ []))) z → z ≡ fit blank (w - 4) t ++ (e ∷ (ns ++ (m ∷ [])))
-title-row {y = y} {u = u} {z = z} {t = t} {e = e} ns m w a b n q f g h =
-    let o : y ≡ kept t = rw q at (f .is) in
-    let i : u ≡ fit blank (w - 4) t = g ∙ rw o (fit-kept (w - 4) t (omega arith)) in
-    let c = length-append (fit blank (w - 4) t) (e ∷ (ns ++ (m ∷ []))) in
-    let d = length-append ns (m ∷ []) in
-    whole z (fit blank (w - 4) t ++ (e ∷ (ns ++ (m ∷ [])))) (omega (arith, c, d, length-fit blank (w - 4) t)) (rw i at (h .is))
-
-pub number-length : (n : ℕ) → length (lineNumber n) ≡ 2
-unfolding lineNumber
-number-length n = refl
-
--- a text from the left edge on, cut or padded to the whole row
-fitted-row : {x y z s : List ℕ} (w : ℕ) → w ≤ mostColumns → x ≡ [] → Behind x s y → z ≡ kept (fit blank w y) → z ≡ fit blank w s
-fitted-row {y = y} {s = s} w a q f g = let o : y ≡ kept s = rw q at (f .is) in g ∙ rw o (fit-kept w s a)
-
-pub blank-row : {x z : List ℕ} (w : ℕ) → w ≤ mostColumns → x ≡ [] → z ≡ kept (fit blank w x) → z ≡ fit blank w []
-blank-row w a q g = g ∙ rw q (kept-short (fit blank w []) (omega (arith, length-fit blank w [])))
+use Rattle.picture.specs.Rows.{greater, editMark, lineNumber, moreMark, titleRow, dot, prompt, passwordRow, dataText, submenuMark, lineRow}
+use Rattle.picture.proofs.Writing.{Rest, behind, rest-step, rest-end, padded, over-tail}
 
 -- ---- the components of a line
 
-module _ (im sheet : List ℕ) (s : Session) where
-  data-one : {x y : List ℕ} (left p : ℕ) (c : Component) → 0 < left → c ≡ componentAt im p → Behind x (componentText im sheet s p c) y
-      → kept (y ++ dataText im sheet s (if c .last then [] else componentsFrom im (left - 1) (c .next))) ≡ kept (x ++ dataText im sheet s (componentsFrom im left p))
+module _ {d e f all : List ℕ} {start m k : ℕ} (im sheet : List ℕ) (s : Session) where
+  data-turn : (left p : ℕ) (c : Component) → 0 < left → c ≡ componentAt im p → Rest d start all e m (dataText im sheet s (componentsFrom im left p))
+      → Put e m (componentText im sheet s p c) f k
+      → Rest d start all f k (dataText im sheet s (if c .last then [] else componentsFrom im (left - 1) (c .next)))
   unfolding dataText componentsFrom
-  data-one zero p c h e f = absurd (omega arith)
-  data-one (suc n) p c h e f = let z : suc n - 1 ≡ n = omega arith in rw (z, f .is, kept-join, append-assoc, e)
+  data-turn zero p c h q r a = absurd (omega arith)
+  data-turn (suc n) p c h q r a = let z : suc n - 1 ≡ n = omega arith in rw z (rest-step (rw (← q) at r) a)
 
   -- the last component ends the loop; behind another there is the next
-  pub data-last : {x y : List ℕ} (left p : ℕ) (c : Component) → 0 < left → c ≡ componentAt im p → Behind x (componentText im sheet s p c) y → c .last ≡ true
-      → y ≡ kept (x ++ dataText im sheet s (componentsFrom im left p))
+  pub data-last : (left p : ℕ) (c : Component) → 0 < left → c ≡ componentAt im p → Rest d start all e m (dataText im sheet s (componentsFrom im left p))
+      → Put e m (componentText im sheet s p c) f k → c .last ≡ true → Put d start all f k
   unfolding dataText
-  data-last {y = y} left p c h e f t =
-      row-done y (short f) ∙ ap (λ (r : List ℕ). kept (y ++ dataText im sheet s r)) (sym (if-true _ _ t)) ∙ data-one left p c h e f
+  data-last left p c h q r a t =
+      let o : Rest d start all f k [] = rw (if-true _ _ t) at (data-turn left p c h q r a) in
+      rest-end o (λ _. refl) (omega (arith, a .ends, o .size, r .size))
 
-  pub data-next : {x y : List ℕ} (left p : ℕ) (c : Component) → 0 < left → c ≡ componentAt im p → Behind x (componentText im sheet s p c) y → c .last ≡ false
-      → kept (y ++ dataText im sheet s (componentsFrom im (left - 1) (c .next))) ≡ kept (x ++ dataText im sheet s (componentsFrom im left p))
-  data-next {y = y} left p c h e f t =
-      ap (λ (r : List ℕ). kept (y ++ dataText im sheet s r)) (sym (if-false _ _ t)) ∙ data-one left p c h e f
+  pub data-next : (left p : ℕ) (c : Component) → 0 < left → c ≡ componentAt im p → Rest d start all e m (dataText im sheet s (componentsFrom im left p))
+      → Put e m (componentText im sheet s p c) f k → c .last ≡ false → Rest d start all f k (dataText im sheet s (componentsFrom im (left - 1) (c .next)))
+  data-next left p c h q r a t = rw (if-false _ _ t) at (data-turn left p c h q r a)
 
-  pub data-done : (x : List ℕ) (left p : ℕ) → length x ≤ mostColumns → left ≤ 0 → x ≡ kept (x ++ dataText im sheet s (componentsFrom im left p))
-  unfolding dataText componentsFrom
-  data-done x left p l h = let z : left ≡ 0 = omega arith in rw z (row-done x l)
+pub data-done : (im sheet : List ℕ) (s : Session) (left p : ℕ) → left ≤ 0 → length (dataText im sheet s (componentsFrom im left p)) ≡ 0
+unfolding dataText componentsFrom
+data-done im sheet s left p h = let z : left ≡ 0 = omega arith in rw z
 
 -- ---- rows, from what the callees ensure
 
-pub line-row-is : {x y u v z : List ℕ} {m e : ℕ} (im sheet : List ℕ) (s : Session) (k p : ℕ) (h : Head) → 2 ≤ s .columns → s .columns ≤ mostColumns
-    → h ≡ headAt im p → m ≡ (if k =? s .here .cursor then greater else blank) → x ≡ [] → Behind x (m ∷ []) y
-    → Behind y (dataText im sheet s (componentsFrom im (length im + 1) (h .component))) u → v ≡ kept (fit blank (s .columns - 1) u)
-    → e ≡ submenuMark h → Behind v (e ∷ []) z → z ≡ lineRow im sheet s k p
-unfolding lineRow componentsOf
-line-row-is im sheet s k p h a b q n r f g i j o = line-row (s .columns) a b r f g i o ∙ rw (n, j, q)
+-- the last cell of a row
+last-cell : (a r : List ℕ) (n e : ℕ) → length a ≡ n → length r ≡ 1 → set (a ++ r) n e ≡ a ++ (e ∷ [])
+last-cell [] [] n e p q = absurd (omega arith)
+last-cell [] (x ∷ []) zero e p q = refl
+last-cell [] (x ∷ []) (suc n) e p q = absurd (omega arith)
+last-cell [] (x ∷ y ∷ r) n e p q = absurd (omega arith)
+last-cell (x ∷ a) r zero e p q = absurd (omega arith)
+last-cell (x ∷ a) r (suc n) e p q = ap (λ (z : List ℕ). x ∷ z) (last-cell a r n e (omega arith) q)
 
-pub title-row-is : {x y u z t k : List ℕ} {e m : ℕ} (im : List ℕ) (s : Session) (count : ℕ) → 4 ≤ s .columns → s .columns ≤ mostColumns
-    → moreMark count (s .lines - 1) (s .here .cursor) ≡ moreMark (lineCount im (s .here .table .0)) (s .lines - 1) (s .here .cursor) → t ≡ textBytes im (s .here .table .0) → x ≡ [] → Behind x t y → u ≡ kept (fit blank (s .columns - 4) y)
-    → e ≡ editMark im (s .here) → m ≡ moreMark count (s .lines - 1) (s .here .cursor) → k ≡ e ∷ (lineNumber (s .here .cursor + 1) ++ (m ∷ [])) → Behind u k z
+pub line-row-is : {a : List ℕ} {e : ℕ} (im sheet : List ℕ) (s : Session) (k p : ℕ) (h : Head) (row : List ℕ) → 2 ≤ s .columns → length row ≡ s .columns → h ≡ headAt im p
+    → a ≡ fit blank (length (take (s .columns - 1) row)) ((if k =? s .here .cursor then greater else blank) ∷ dataText im sheet s (componentsFrom im (length im + 1) (h .component)))
+    → e ≡ submenuMark h → set (a ++ drop (s .columns - 1) row) (s .columns - 1) e ≡ lineRow im sheet s k p
+unfolding lineRow componentsOf fit
+line-row-is {a = a} {e = e} im sheet s k p h row w l q f g =
+    let n : length (take (s .columns - 1) row) ≡ suc (s .columns - 2) = omega (arith, length-take (s .columns - 1) row) in
+    let m : length (drop (s .columns - 1) row) ≡ 1 = omega (arith, length-drop (s .columns - 1) row) in
+    let o : a ≡ (if k =? s .here .cursor then greater else blank) ∷ fit blank (s .columns - 2) (dataText im sheet s (componentsFrom im (length im + 1) (h .component))) = f ∙ rw n in
+    let i : length a ≡ s .columns - 1 = rw o (omega (arith, length-fit blank (s .columns - 2) (dataText im sheet s (componentsFrom im (length im + 1) (h .component))))) in
+    last-cell a (drop (s .columns - 1) row) (s .columns - 1) e i m ∙ rw (o, g, q)
+
+pub title-row-is : {x y u z t : List ℕ} {e m a : ℕ} (im : List ℕ) (s : Session) (count : ℕ) → 4 ≤ s .columns → length x ≡ s .columns
+    → moreMark count (s .lines - 1) (s .here .cursor) ≡ moreMark (lineCount im (s .here .table .0)) (s .lines - 1) (s .here .cursor) → t ≡ textBytes im (s .here .table .0)
+    → Put x 0 t y a → u ≡ over y a (replicate (length y - a) blank)
+    → e ≡ editMark im (s .here) → m ≡ moreMark count (s .lines - 1) (s .here .cursor) → z ≡ over u (s .columns - 4) (e ∷ (lineNumber (s .here .cursor + 1) ++ (m ∷ [])))
     → z ≡ titleRow im s
-unfolding titleRow
-title-row-is im s count a b n f g h i j o l q =
-    title-row (lineNumber (s .here .cursor + 1)) _ (s .columns) a b (number-length (s .here .cursor + 1)) g h i (rw l at q) ∙ rw (j, o, n, f)
+unfolding titleRow lineNumber
+title-row-is {t = t} {e = e} {m = m} im s count a b n f g h i j o =
+    o
+    ∙ rw (padded blank g h, b) (over-tail blank (s .columns) (s .columns - 4) t (e ∷ (lineNumber (s .here .cursor + 1) ++ (m ∷ []))) (omega arith) ∙ rw (i, j, n, f))
 
-pub password-row-is : {x y u v r t o z : List ℕ} {d k : ℕ} (im : List ℕ) (s : Session) (h : Head) (n : ℕ) → s .columns ≤ mostColumns → h ≡ cursorHead im (s .here)
-    → d ≡ byteAt im (h .password) → k ≡ d - n → x ≡ [] → Behind x (capitalP ∷ []) y → Behind y (0x77 ∷ []) u → Behind u (0x64 ∷ []) v
-    → Behind v (colon ∷ []) r → Behind r (replicate n star) t → Behind t (replicate k dot) o → z ≡ kept (fit blank (s .columns) o)
-    → z ≡ passwordRow im s n
+pub password-row-is : {x y u v z : List ℕ} {d k a b c : ℕ} (im : List ℕ) (s : Session) (h : Head) (n : ℕ) → length x ≡ s .columns → h ≡ cursorHead im (s .here)
+    → d ≡ byteAt im (h .password) → k ≡ d - n → Put x 0 prompt y a → Put y a (replicate n star) u b → Put u b (replicate k dot) v c
+    → z ≡ over v c (replicate (length v - c) blank) → z ≡ passwordRow im s n
 unfolding passwordRow
-password-row-is im s h n a q e g f b c i j l m p =
-    fitted-row (s .columns) a f (behind b (behind c (behind i (behind j (behind l m))))) p ∙ rw (g, e, q)
+password-row-is im s h n l q e g a b c p = padded blank (behind a (behind b c)) p ∙ rw (l, g, e, q)
 
 module _ (im : List ℕ) (l : Level) (h : Head) (f : Found) (e : h ≡ cursorHead im l) (g : f ≡ firstEditable im (lineFromHere im (h .component))) where
   first-is : f ≡ firstEditable im (componentsOf im (cursorLine im l))

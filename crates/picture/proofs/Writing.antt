@@ -1,186 +1,131 @@
--- Texts put one behind the other into a row: what a row drops of the first it would drop of the join, so cutting can wait to the end.
+-- Texts put into a row: what is left to put, put into the row as it is, is the whole put into the row as it was.
 use Prim.Native.Nat.{ℕ, zero, suc, _+_, _-_, _≤_, _<_, min}
-use mathlib.Core.Path.{_≡_, sym, ap, _∙_}
-use mathlib.Core.Bool.{true}
-use mathlib.Core.List.{List, [], _∷_, _++_, append-assoc, append-nil}
+use mathlib.Core.Path.{_≡_, refl, sym, ap, _∙_}
+use mathlib.Core.List.{List, [], _∷_, _++_}
+use native.Mathlib.Nat.{zero-add, suc-add}
 use native.Mathlib.Omega.{arith}
-use lib.ListN.{length, take, drop, set, getD, replicate, length-append, length-take, drop-of-length-le}
-use lib.Seq.{take-suc, take-suc-set, take-all, take-take, take-append-le, take-append-add, drop-cons, getD-take}
-use borrow.Author.Tests.{leb-true, leb-false, le-leb, lt-leb}
+use lib.ListN.{length, drop, set, getD, replicate, length-append}
+use lib.Seq.{drop-cons}
+use borrow.Author.Tests.{leb-true, leb-false}
 use Rattle.laws.proofs.Cases.{by-test}
 use Rattle.laws.specs.Choice.{_≤?_}
 use Rattle.laws.specs.Overwrite.{fit, over}
-use Rattle.laws.proofs.Overwriting.{take-fit, fit-cut, fit-pad, take-join, over-cons, over-nil, over-out}
-use Rattle.session.specs.Fits.{mostColumns}
-use Rattle.picture.specs.Row.{rowText, kept, Behind}
-use Rattle.picture.specs.Texts.{blank}
-use Rattle.picture.specs.declared.row.Row.{Row}
+use Rattle.laws.proofs.Overwriting.{length-over, length-fit, over-cons, over-nil, over-out, over-over, over-all}
+use Rattle.picture.specs.Row.{Put}
 
--- ---- what a row keeps
+-- ---- one behind the other
 
-pub kept-short : (s : List ℕ) → length s ≤ mostColumns → kept s ≡ s
-unfolding kept
-kept-short s h = take-all mostColumns s h
-
-pub kept-length : (s : List ℕ) → length (kept s) ≤ mostColumns
-unfolding kept
-kept-length s = omega (arith, length-take mostColumns s)
-
-pub kept-join : (s t : List ℕ) → kept (kept s ++ t) ≡ kept (s ++ t)
-unfolding kept
-kept-join s t = take-join mostColumns s t
-
--- two texts, one put behind the other
-pub behind : {x y z s t : List ℕ} → Behind x s y → Behind y t z → Behind x (s ++ t) z
-behind {x = x} {s = s} {t = t} e f = record { is = f .is ∙ rw (e .is, kept-join, append-assoc) }
+-- two texts
+pub behind : {d e f s t : List ℕ} {at m r : ℕ} → Put d at s e m → Put e m t f r → Put d at (s ++ t) f r
+behind {d = d} {e = e} {s = s} {t = t} {at = at} a b =
+    let l : length e ≡ length d = ap length (a .is) ∙ length-over d at s in
+    record {
+      is = b .is ∙ rw (a .is, a .ends) (over-over d at s t);
+      ends = omega (arith, a .ends, b .ends, length-append s t);
+    }
 
 -- the same text under another name
-pub same : {x z s t : List ℕ} → s ≡ t → Behind x s z → Behind x t z
-same e b = record { is = b .is ∙ rw e }
+pub same : {d e s t : List ℕ} {at r : ℕ} → s ≡ t → Put d at s e r → Put d at t e r
+same q a = rw q at a
 
--- one cell, and the rest of a text behind it
-pub push-turn : {x y : List ℕ} (t : List ℕ) (b : ℕ) → Behind x (b ∷ []) y → kept (y ++ t) ≡ kept (x ++ (b ∷ t))
-push-turn t b e = rw (e .is, kept-join, append-assoc)
+-- what is written in front and what is written behind it may change places
+pub over-ahead : (d : List ℕ) (at : ℕ) (s t : List ℕ) → over (over d (at + length s) t) at s ≡ over (over d at s) (at + length s) t
+unfolding over
+over-ahead [] at s t = refl
+over-ahead (x ∷ d) zero [] t = over-nil (over (x ∷ d) 0 t) 0
+over-ahead (x ∷ d) zero (y ∷ s) t = simp zero-add (ap (λ (r : List ℕ). y ∷ r) (simp zero-add at (over-ahead d zero s t)))
+over-ahead (x ∷ d) (suc at) s t = simp suc-add (ap (λ (r : List ℕ). x ∷ r) (over-ahead d at s t))
 
--- a full row drops what is left of a text; nothing is left of it
-pub full-row : (x t : List ℕ) → length x ≤ mostColumns → (mostColumns ≤? length x) ≡ true → x ≡ kept (x ++ t)
-unfolding kept
-full-row x t l h =
-    let f = leb-true mostColumns (length x) h in
-    sym (take-append-le mostColumns x t f ∙ take-all mostColumns x l)
+-- ---- cells
 
-pub row-done : (x : List ℕ) → length x ≤ mostColumns → x ≡ kept (x ++ [])
-row-done x l = sym (rw append-nil (kept-short x l))
+pub put-in : (d : List ℕ) (at b : ℕ) → at < length d → Put d at (b ∷ []) (set d at b) (at + 1)
+put-in d at b h = record {
+  is = sym (over-nil (set d at b) (suc at)) ∙ over-cons d at b [] h;
+  ends = omega arith;
+}
 
--- the row with nothing left to put is the whole
-pub loop-done : {x z s a : List ℕ} → z ≡ a → a ≡ kept (x ++ s) → Behind x s z
-loop-done e f = record { is = e ∙ f }
+-- past the end all is dropped
+pub put-out : (d t : List ℕ) (at : ℕ) → length d ≤ at → Put d at t d (length d)
+put-out d t at h = record {
+  is = sym (over-out d at t h);
+  ends = omega arith;
+}
 
--- ---- a cell of the row's array
+-- ---- loops that put a text
 
-pub length-row : (r : Row) → length (r .cells) ≡ mostColumns → length (rowText r) ≤ mostColumns
-unfolding rowText
-length-row r h = omega (arith, length-take (r .len) (r .cells))
+-- of a text to be put into a row there is this left, to be put into the row as it is
+pub record Rest (d : List ℕ) (at : ℕ) (s e : List ℕ) (m : ℕ) (t : List ℕ) : Type 0 where
+  pub is : over e m t ≡ over d at s
+  pub ends : min (length d) (m + length t) ≡ min (length d) (at + length s)
+  pub size : length e ≡ length d
 
-pub push-room : (s : List ℕ) (n b : ℕ) → n < length s → n < mostColumns → Behind (take n s) (b ∷ []) (take (n + 1) (set s n b))
-unfolding kept
-push-room s n b p q =
-    let e : n + 1 ≡ suc n = omega arith in
-    record {
-      is = rw (e, take-suc-set s n b p)
-          (sym (take-all mostColumns (take n s ++ (b ∷ [])) (omega (arith, length-append (take n s) (b ∷ []), length-take n s))));
-    }
+pub rest-start : (d s : List ℕ) (at : ℕ) → Rest d at s d at s
+rest-start d s at = record { is = refl; ends = refl; size = refl }
 
-pub push-full : (s : List ℕ) (n b : ℕ) → length s ≡ mostColumns → mostColumns ≤ n → Behind (take n s) (b ∷ []) (take n s)
-unfolding kept
-push-full s n b p q =
-    let l = length-take n s in
-    record {
-      is = sym (take-append-le mostColumns (take n s) (b ∷ []) (omega arith) ∙ take-all mostColumns (take n s) (omega arith));
-    }
+-- the next part of it
+pub rest-step : {d s e f t u : List ℕ} {at m k : ℕ} → Rest d at s e m (t ++ u) → Put e m t f k → Rest d at s f k u
+rest-step {e = e} {t = t} {u = u} {m = m} r p = record {
+  is = rw (p .is, p .ends) (over-over e m t u) ∙ r .is;
+  ends = omega (arith, p .ends, r .size, r .ends, length-append t u);
+  size = ap length (p .is) ∙ length-over e m t ∙ r .size;
+}
 
--- the length says whether the row is full
-pub full-by-length : (r : Row) → length (r .cells) ≡ mostColumns → (mostColumns ≤? r .len) ≡ (mostColumns ≤? length (rowText r))
-unfolding rowText
-full-by-length r h =
-    by-test (mostColumns ≤? r .len)
-    (λ e. e ∙ sym (le-leb mostColumns (length (take (r .len) (r .cells))) (omega (arith, leb-true mostColumns (r .len) e, length-take (r .len) (r .cells)))))
-    (λ e. e ∙ sym (lt-leb mostColumns (length (take (r .len) (r .cells))) (omega (arith, leb-false mostColumns (r .len) e, length-take (r .len) (r .cells)))))
+-- the next cell of it
+pub rest-cell : {d s e t u : List ℕ} {at m b : ℕ} → Rest d at s e m t → m < length e → t ≡ b ∷ u → Rest d at s (set e m b) (m + 1) u
+rest-cell {e = e} {u = u} {m = m} {b = b} r h q = rest-step {t = b ∷ []} {u = u} (rw q at r) (put-in e m b h)
 
--- a full row drops what is left of a text
-pub full-now : (r : Row) (t : List ℕ) → length (r .cells) ≡ mostColumns → mostColumns ≤ r .len → rowText r ≡ kept (rowText r ++ t)
-full-now r t l h = full-row (rowText r) t (length-row r l) (sym (full-by-length r l) ∙ le-leb mostColumns (r .len) h)
-
--- ---- loops that put cells
-
-pub short : {x s y : List ℕ} → Behind x s y → length y ≤ mostColumns
-short {x = x} {s = s} e = rw (e .is) (kept-length (x ++ s))
-
--- the next byte of a text, copied behind the n cells of a row
-pub copy-turn : (s t a : List ℕ) (n i b : ℕ) → n + i < length s → i < length t → b ≡ getD t i 0 → take (n + i) s ≡ a ++ take i t
-    → take (n + (i + 1)) (set s (n + i) b) ≡ a ++ take (i + 1) t
-copy-turn s t a n i b p q e h =
-    let u : n + (i + 1) ≡ suc (n + i) = omega arith in
-    let v : i + 1 ≡ suc i = omega arith in
-    rw (u, v, take-suc-set s (n + i) b p, take-suc t i 0 q, h, e, append-assoc)
-
--- as many bytes of it as there is room for
-pub copy-done : (s t z : List ℕ) (n count : ℕ) → length s ≡ mostColumns → n < mostColumns → count ≡ min (length t) (mostColumns - n)
-    → take (n + count) z ≡ take n s ++ take count t → Behind (take n s) t (take (n + count) z)
-unfolding kept
-copy-done s t z n count l h c e =
-    let w : mostColumns ≡ length (take n s) + (mostColumns - n) = omega (arith, length-take n s) in
-    record {
-      is = e ∙ sym (ap (λ (k : ℕ). take k (take n s ++ t)) w ∙ take-append-add (take n s) t (mostColumns - n) ∙ ap (λ (r : List ℕ). take n s ++ r) all);
-    }
+-- nothing of it is left, or nothing of the row
+pub rest-end : {d s e t : List ℕ} {at m r : ℕ} → Rest d at s e m t → (m < length e → length t ≡ 0) → r ≡ min (length e) m → Put d at s e r
+rest-end {e = e} {t = t} {m = m} r f q =
+    by-test (length e ≤? m)
+    (λ h. let l = leb-true (length e) m h in record { is = sym (over-out e m t l) ∙ r .is; ends = omega (arith, r .ends, r .size) })
+    (λ h. let l = leb-false (length e) m h in
+    let z = f l in
+    record { is = sym (over-none t z) ∙ r .is; ends = omega (arith, r .ends, r .size) })
   where
-    all : take (mostColumns - n) t ≡ take count t
-    all =
-        by-test (length t ≤? (mostColumns - n))
-        (λ q. let p = leb-true (length t) (mostColumns - n) q in take-all (mostColumns - n) t p ∙ sym (take-all count t (omega arith)))
-        (λ q. let p = leb-false (length t) (mostColumns - n) q in let o : mostColumns - n ≡ count = omega arith in rw o)
+    over-none : (t : List ℕ) → length t ≡ 0 → over e m t ≡ e
+    over-none [] z = over-nil e m
+    over-none (x ∷ t) z = absurd (omega arith)
+
+-- the next byte of a text
+pub text-cell : (t : List ℕ) (i b : ℕ) → i < length t → b ≡ getD t i 0 → drop i t ≡ b ∷ drop (i + 1) t
+text-cell t i b h e = let v : i + 1 ≡ suc i = omega arith in rw (v, drop-cons t i 0 h, e)
 
 -- the same byte once more
-pub repeat-turn : {x y : List ℕ} (left b : ℕ) → 0 < left → Behind x (b ∷ []) y → kept (y ++ replicate (left - 1) b) ≡ kept (x ++ replicate left b)
-repeat-turn zero b h e = absurd (omega arith)
-repeat-turn (suc n) b h e = let a : suc n - 1 ≡ n = omega arith in rw a (push-turn (replicate n b) b e)
+pub repeat-cell : (n k b : ℕ) → n ≡ suc k → replicate n b ≡ b ∷ replicate k b
+repeat-cell n k b e = rw e
 
-pub repeat-done : (x : List ℕ) (left b : ℕ) → length x ≤ mostColumns → left ≤ 0 → x ≡ kept (x ++ replicate left b)
-repeat-done x left b l h = let z : left ≡ 0 = omega arith in rw z (row-done x l)
+pub repeat-left : (at i count : ℕ) → at ≤ i → i < at + count → count - (i - at) ≡ suc (count - (i + 1 - at))
+repeat-left at i count l h = omega arith
 
--- ---- cut or padded
+-- ---- whole rows
 
--- a full row is what is kept of it however far it is padded
-full-fit : (n : ℕ) (s : List ℕ) → length s ≡ mostColumns → mostColumns ≤ n → kept (fit blank n s) ≡ s
-unfolding kept
-full-fit n s l h = take-fit blank n mostColumns s l h
+over-fit : (b : ℕ) (d s : List ℕ) → over d 0 (s ++ replicate (length d - length s) b) ≡ fit b (length d) s
+unfolding over fit
+over-fit b [] s = refl
+over-fit b (x ∷ d) [] =
+    let z : length (x ∷ d) - 0 ≡ suc (length d) = omega arith in
+    let u : length d - 0 ≡ length d = omega arith in
+    rw z (ap (λ (r : List ℕ). b ∷ r) (rw u at (over-fit b d [])))
+over-fit b (x ∷ d) (y ∷ s) =
+    let z : length (x ∷ d) - length (y ∷ s) ≡ length d - length s = omega arith in
+    rw z (ap (λ (r : List ℕ). y ∷ r) (over-fit b d s))
 
--- cutting a row is forgetting cells
-pub fit-less : (r : Row) (n : ℕ) → length (r .cells) ≡ mostColumns → n < r .len → take n (r .cells) ≡ kept (fit blank n (rowText r))
-unfolding rowText
-fit-less r n l h =
-    by-test (n ≤? mostColumns)
-    (λ e. let q = leb-true n mostColumns e in
-    sym
-    (rw (fit-cut blank n (take (r .len) (r .cells)) (omega (arith, length-take (r .len) (r .cells))), take-take n (r .len) (r .cells) (omega arith))
-    (kept-short (take n (r .cells)) (omega (arith, length-take n (r .cells))))))
-    (λ e. let q = leb-false n mostColumns e in
-    rw (take-all n (r .cells) (omega arith), take-all (r .len) (r .cells) (omega arith)) (sym (full-fit n (r .cells) l (omega arith))))
+-- a text from the left edge on, and padded
+pub padded : {d s e f : List ℕ} {m : ℕ} (b : ℕ) → Put d 0 s e m → f ≡ over e m (replicate (length e - m) b) → f ≡ fit b (length d) s
+padded {d = d} {s = s} {e = e} {m = m} b a q =
+    let l : length e ≡ length d = ap length (a .is) ∙ length-over d 0 s in
+    let z : length e - m ≡ length d - length s = omega (arith, a .ends) in
+    q ∙ rw z (rw (a .is, a .ends) (over-over d 0 s (replicate (length d - length s) b)) ∙ over-fit b d s)
 
--- padding it is putting blanks
-pub fit-more : (r : Row) (n : ℕ) (y : List ℕ) → length (r .cells) ≡ mostColumns → r .len ≤ n → Behind (rowText r) (replicate (n - r .len) blank) y
-    → y ≡ kept (fit blank n (rowText r))
-unfolding rowText
-fit-more r n y l h g =
-    let e = g .is in
-    by-test (r .len ≤? mostColumns)
-    (λ t. let q = leb-true (r .len) mostColumns t in
-    let z : length (take (r .len) (r .cells)) ≡ r .len = omega (arith, length-take (r .len) (r .cells)) in
-    e ∙ sym (rw (fit-pad blank n (take (r .len) (r .cells)) (omega arith), z)))
-    (λ t. let q = leb-false (r .len) mostColumns t in
-    let a : take (r .len) (r .cells) ≡ r .cells = take-all (r .len) (r .cells) (omega arith) in
-    e ∙ rw a (sym (full-row (r .cells) _ (omega arith) (le-leb mostColumns (length (r .cells)) (omega arith))) ∙ sym (full-fit n (r .cells) l (omega arith))))
+-- blanks alone
+pub all-blank : (b : ℕ) (d f : List ℕ) → f ≡ over d 0 (replicate (length d - 0) b) → f ≡ fit b (length d) []
+all-blank b d f q = q ∙ over-fit b d []
 
--- ---- a row written over the picture
-
--- the cell at i of the row, which is the next to be written
-pub put-turn : (d : List ℕ) (r : Row) (at i x : ℕ) → at + i < length d → length (r .cells) ≡ mostColumns → i < r .len → i < mostColumns → x ≡ getD (r .cells) i 0
-    → over (set d (at + i) x) (at + (i + 1)) (drop (i + 1) (rowText r)) ≡ over d (at + i) (drop i (rowText r))
-unfolding rowText
-put-turn d r at i x q l a b e =
-    let u : at + (i + 1) ≡ suc (at + i) = omega arith in
-    let v : i + 1 ≡ suc i = omega arith in
-    let h : i < length (take (r .len) (r .cells)) = omega (arith, length-take (r .len) (r .cells)) in
-    rw (u, v, over-cons d (at + i) x (drop (suc i) (take (r .len) (r .cells))) q, drop-cons (take (r .len) (r .cells)) i 0 h, getD-take (r .len) (r .cells) i 0 a, e)
-
-short-by-length : (r : Row) (i : ℕ) → length (r .cells) ≡ mostColumns → min (r .len) mostColumns ≤ i → length (rowText r) ≤ i
-unfolding rowText
-short-by-length r i l h = omega (arith, length-take (r .len) (r .cells))
-
--- nothing of the row is left, or nothing of the picture
-pub put-done : (d : List ℕ) (r : Row) (at i cells count : ℕ) → length (r .cells) ≡ mostColumns → cells ≡ min (r .len) mostColumns → count ≡ min cells (length d - at) → count ≤ i
-    → over d (at + i) (drop i (rowText r)) ≡ d
-put-done d r at i cells count l e f h =
-    by-test (length d ≤? at + i) (λ q. over-out d (at + i) _ (leb-true (length d) (at + i) q))
-    (λ q. let p = leb-false (length d) (at + i) q in
-    rw (drop-of-length-le (rowText r) {i = i} (short-by-length r i l (omega arith))) (over-nil d (at + i)))
+-- a text over the end of a row that is cut or padded
+pub over-tail : (b n k : ℕ) (s t : List ℕ) → n ≡ k + length t → over (fit b n s) k t ≡ fit b k s ++ t
+unfolding over fit
+over-tail b n zero s t e = over-all (fit b n s) t (omega (arith, length-fit b n s))
+over-tail b zero (suc k) s t e = absurd (omega arith)
+over-tail b (suc n) (suc k) [] t e = ap (λ (r : List ℕ). b ∷ r) (over-tail b n k [] t (omega arith))
+over-tail b (suc n) (suc k) (x ∷ s) t e = ap (λ (r : List ℕ). x ∷ r) (over-tail b n k s t (omega arith))

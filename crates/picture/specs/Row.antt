@@ -1,19 +1,11 @@
--- A row while it is written: what does not fit into the widest display is dropped.
-use Prim.Native.Nat.{ℕ}
+-- The cells of a row while they are written: texts are put one behind the other, and what does not fit is dropped.
+use Prim.Native.Nat.{ℕ, _+_, min}
 use mathlib.Core.Path.{_≡_}
-use mathlib.Core.List.{List, _++_}
-use lib.ListN.{take}
-use Rattle.session.specs.Fits.{mostColumns}
-use Rattle.picture.specs.declared.row.Row.{Row}
+use mathlib.Core.List.{List}
+use lib.ListN.{length}
+use Rattle.laws.specs.Overwrite.{over}
 
--- the cells that have been written
-unfoldable pub rowText : Row → List ℕ
-rowText r = take (r .len) (r .cells)
-
--- what a row keeps of a text
-unfoldable pub kept : List ℕ → List ℕ
-kept s = take mostColumns s
-
--- a text is put behind what a row has
-pub record Behind (before text after : List ℕ) : Type 0 where
-  pub is : after ≡ kept (before ++ text)
+-- a text is put into a row from a place on, and ends at `end`: behind its last cell, or where the row ends
+pub record Put (before : List ℕ) (at : ℕ) (text after : List ℕ) (end : ℕ) : Type 0 where
+  pub is : after ≡ over before at text
+  pub ends : end ≡ min (length before) (at + length text)

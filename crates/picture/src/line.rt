@@ -1,25 +1,28 @@
 // The row of a line.
 ghost use mathlib.Core.Path.{_≡_};
-ghost use mathlib.Core.List.{_++_};
+ghost use mathlib.Core.List.{_∷_};
 ghost use Prim.Native.Nat.{_+_, _≤_};
 ghost use lib.ListN.{length};
+ghost use Rattle.laws.specs.Choice.{if_then_else_, _=?_};
+ghost use Rattle.laws.specs.Overwrite.{fit};
 ghost use Rattle.cmf.specs.Readers.{headAt};
 ghost use Rattle.cmf.specs.Places.{componentsFrom, componentsOf};
-ghost use Rattle.picture.specs.Row.{rowText, Behind};
-ghost use Rattle.laws.specs.Choice.{if_then_else_, _=?_};
-ghost use Rattle.session.specs.Fits.{mostColumns};
 ghost use Rattle.session.specs.Browsing.{firstEditable};
+ghost use Rattle.picture.specs.Row.{Put};
 ghost use Rattle.picture.specs.Texts.{blank, star, colon};
 ghost use Rattle.picture.specs.Rows.{greater, dataText, submenuMark, lineRow};
-use crate::row::Row;
+use crate::row::pad;
+use crate::row::put;
+use crate::row::smaller;
+use crate::text::put_component;
 use cmf::component::read_component;
 use cmf::head::Head;
 use session::session::Session;
 
-// A row, and its line's mark in row 0: whether a component is editable, or 0 where the row does not tell.
-pub(crate) struct Marked {
-    pub row: Row,
-    pub mark: u8,
+// Where a line's data end, and its mark in row 0: whether a component is editable, or 0 where the row does not tell.
+struct Marked {
+    end: usize,
+    mark: u8,
 }
 
 // The mark by one component more, which is the last of its line or not.
@@ -38,37 +41,42 @@ fn mark_by(mark: u8, editable: bool, last: bool) -> u8
     0
 }
 
-impl Row {
-    // What the components from one on to the last of a line show; none is read that begins past the row's end.
-    fn line_data(
-        self,
-        image: &[u8],
-        sheet: &[u8],
-        session: Session,
-        cells: &[u32],
-        first: usize,
-    ) -> Marked
-        requires { ⌜ now cells ≡ session .work .cells ⌝ }
-        ensures { λ r. ⌜ Behind (rowText self) (dataText (now (image .entry)) (now (sheet .entry)) session (componentsFrom (now (image .entry)) (length (now (image .entry)) + 1) first)) (rowText (r .row)) × ((r .mark ≡ 0 → ⊥) → r .mark ≡ if firstEditable (now (image .entry)) (componentsFrom (now (image .entry)) (length (now (image .entry)) + 1) first) .found then colon else star) ⌝ }
-    {
-        let mut row = self;
-        let mut mark = 0;
-        let mut p = first;
-        let mut left = image.len() + 1;
-        while 0 < left {
-            if row.is_full() {
-                return Marked { row, mark };
-            }
-            let c = read_component(image, p);
-            row = row.shown(image, sheet, session, cells, c, p);
-            mark = mark_by(mark, c.editable, c.last);
-            if c.last {
-                return Marked { row, mark };
-            }
-            p = c.next;
-            left = left - 1;
+// What the components from one on to the last of a line show; none is read that begins past the row's end.
+fn put_data(
+    row: &mut [u8],
+    start: usize,
+    image: &[u8],
+    sheet: &[u8],
+    session: Session,
+    cells: &[u32],
+    first: usize,
+) -> Marked
+    requires { ⌜ now cells ≡ session .work .cells ⌝ }
+    ensures { λ r. ⌜ Put (now (row .entry)) start (dataText (now (image .entry)) (now (sheet .entry)) session (componentsFrom (now (image .entry)) (length (now (image .entry)) + 1) first)) (now (row .exit)) (r .end) × ((r .mark ≡ 0 → ⊥) → r .mark ≡ if firstEditable (now (image .entry)) (componentsFrom (now (image .entry)) (length (now (image .entry)) + 1) first) .found then colon else star) ⌝ }
+{
+    let mut at = start;
+    let mut mark = 0;
+    let mut p = first;
+    let mut left = image.len() + 1;
+    while 0 < left {
+        if row.len() <= at {
+            return Marked {
+                end: row.len(),
+                mark,
+            };
         }
-        Marked { row, mark }
+        let c = read_component(image, p);
+        at = put_component(&mut *row, at, image, sheet, session, cells, c, p);
+        mark = mark_by(mark, c.editable, c.last);
+        if c.last {
+            return Marked { end: at, mark };
+        }
+        p = c.next;
+        left = left - 1;
+    }
+    Marked {
+        end: smaller(row.len(), at),
+        mark,
     }
 }
 
@@ -90,8 +98,29 @@ fn submenu_mark(h: Head) -> u8
     b' '
 }
 
-// The row of line k, from 0, of the shown table; the line stands at p, and its head is given.
-pub(crate) fn line_row(
+// The row of line k but for its last cell; answers the line's mark in row 0, or 0.
+fn put_start(
+    row: &mut [u8],
+    image: &[u8],
+    sheet: &[u8],
+    session: Session,
+    cells: &[u32],
+    k: usize,
+    first: usize,
+) -> u8
+    requires { ⌜ now cells ≡ session .work .cells ⌝ }
+    ensures { λ r. ⌜ ((r ≡ 0 → ⊥) → r ≡ if firstEditable (now (image .entry)) (componentsFrom (now (image .entry)) (length (now (image .entry)) + 1) first) .found then colon else star) ⌝ }
+    ensures { λ _. ⌜ now (row .exit) ≡ fit blank (length (now (row .entry))) ((if k =? session .here .cursor then greater else blank) ∷ dataText (now (image .entry)) (now (sheet .entry)) session (componentsFrom (now (image .entry)) (length (now (image .entry)) + 1) first)) ⌝ }
+{
+    let start = put(&mut *row, 0, cursor_mark(k, session.here.cursor));
+    let data = put_data(&mut *row, start, image, sheet, session, cells, first);
+    pad(&mut *row, data.end);
+    data.mark
+}
+
+// The row of line k, from 0, of the shown table; the line stands at p, and its head is given. Answers its mark in row 0, or 0.
+pub(crate) fn put_line(
+    row: &mut [u8],
     image: &[u8],
     sheet: &[u8],
     session: Session,
@@ -99,16 +128,21 @@ pub(crate) fn line_row(
     k: usize,
     p: usize,
     h: Head,
-) -> Marked
-    requires { ⌜ (2 ≤ session .columns) × (session .columns ≤ mostColumns) × (now cells ≡ session .work .cells) × (h ≡ headAt (now image) p) ⌝ }
-    ensures { λ r. ⌜ (rowText (r .row) ≡ lineRow (now (image .entry)) (now (sheet .entry)) session k p) × ((r .mark ≡ 0 → ⊥) → r .mark ≡ if firstEditable (now (image .entry)) (componentsOf (now (image .entry)) p) .found then colon else star) ⌝ }
+) -> u8
+    requires { ⌜ (2 ≤ session .columns) × (length (now row) ≡ session .columns) × (now cells ≡ session .work .cells) × (h ≡ headAt (now image) p) ⌝ }
+    ensures { λ r. ⌜ ((r ≡ 0 → ⊥) → r ≡ if firstEditable (now (image .entry)) (componentsOf (now (image .entry)) p) .found then colon else star) ⌝ }
+    ensures { λ _. ⌜ now (row .exit) ≡ lineRow (now (image .entry)) (now (sheet .entry)) session k p ⌝ }
 {
-    let columns = session.columns as usize;
-    let data = Row::new()
-        .push(cursor_mark(k, session.here.cursor))
-        .line_data(image, sheet, session, cells, h.component);
-    Marked {
-        row: data.row.fit(columns - 1).push(submenu_mark(h)),
-        mark: data.mark,
-    }
+    let end = session.columns as usize - 1;
+    let mark = put_start(
+        &mut row[..end],
+        image,
+        sheet,
+        session,
+        cells,
+        k,
+        h.component,
+    );
+    row[end] = submenu_mark(h);
+    mark
 }

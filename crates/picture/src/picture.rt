@@ -10,10 +10,10 @@ ghost use Rattle.cmf.specs.Readers.{headAt};
 ghost use Rattle.cmf.specs.Places.{componentsOf, lineAt, lineCount};
 ghost use Rattle.session.specs.Browsing.{firstEditable};
 ghost use Rattle.picture.specs.Texts.{star, colon};
-ghost use Rattle.session.specs.Fits.{mostColumns, shapeFits, cursorLine};
+ghost use Rattle.session.specs.Fits.{shapeFits, cursorLine};
 ghost use Rattle.picture.specs.Rows.{editMark, moreMark, rowAt, rowsBelow, pictureOf, filled};
-use crate::line::line_row;
-use crate::row::Row;
+use crate::line::put_line;
+use crate::row::pad;
 use crate::title::put_top;
 use cmf::head::Head;
 use cmf::head::read_head;
@@ -101,6 +101,7 @@ fn asked(image: &[u8], here: Level, lines: u8, k: usize, known: Known) -> Known
 
 // Writes the row of line k of a table of count lines, and answers its mark in row 0, or 0; the line stands at p, and its head is given.
 fn put_row(
+    row: &mut [u8],
     image: &[u8],
     sheet: &[u8],
     session: Session,
@@ -109,27 +110,21 @@ fn put_row(
     k: usize,
     p: usize,
     h: Head,
-    picture: &mut [u8],
-    at: usize,
 ) -> u8
-    requires { ⌜ (2 ≤ session .columns) × (session .columns ≤ mostColumns) × (now cells ≡ session .work .cells) × (h ≡ headAt (now image) p) ⌝ }
+    requires { ⌜ (2 ≤ session .columns) × (length (now row) ≡ session .columns) × (now cells ≡ session .work .cells) × (h ≡ headAt (now image) p) ⌝ }
     ensures { λ r. ⌜ ((r ≡ 0 → ⊥) → r ≡ if firstEditable (now (image .entry)) (componentsOf (now (image .entry)) p) .found then colon else star) ⌝ }
-    ensures { λ _. ⌜ now (picture .exit) ≡ over (now (picture .entry)) at (rowAt (now (image .entry)) (now (sheet .entry)) session count k p) ⌝ }
+    ensures { λ _. ⌜ now (row .exit) ≡ rowAt (now (image .entry)) (now (sheet .entry)) session count k p ⌝ }
 {
     if k < count {
-        let line = line_row(image, sheet, session, cells, k, p, h);
-        line.row.put(&mut *picture, at);
-        return line.mark;
+        return put_line(&mut *row, image, sheet, session, cells, k, p, h);
     }
-    Row::new()
-        .fit(session.columns as usize)
-        .put(&mut *picture, at);
+    pad(&mut *row, 0);
     0
 }
 
 // Writes the rows below row 0, and answers what row 0 asks.
 fn put_rows(image: &[u8], sheet: &[u8], session: Session, picture: &mut [u8]) -> Known
-    requires { ⌜ (2 ≤ session .columns) × (session .columns ≤ mostColumns) ⌝ }
+    requires { ⌜ (2 ≤ session .columns) × (1 ≤ session .lines) × (length (now picture) ≡ session .columns * session .lines) ⌝ }
     ensures { λ r. ⌜ (moreMark (r .count) (session .lines - 1) (session .here .cursor) ≡ moreMark (lineCount (now (image .entry)) (session .here .table .0)) (session .lines - 1) (session .here .cursor)) × (r .place ≡ cursorLine (now (image .entry)) (session .here)) × ((r .mark ≡ 0 → ⊥) → r .mark ≡ editMark (now (image .entry)) (session .here)) ⌝ }
     ensures { λ _. ⌜ now (picture .exit) ≡ over (now (picture .entry)) (session .columns) (rowsBelow (now (image .entry)) (now (sheet .entry)) session) ⌝ }
 {
@@ -148,7 +143,9 @@ fn put_rows(image: &[u8], sheet: &[u8], session: Session, picture: &mut [u8]) ->
     let mut at = columns;
     while 1 < left {
         let h = read_head(image, p);
+        let end = at + columns;
         let mark = put_row(
+            &mut picture[at..end],
             image,
             sheet,
             session,
@@ -157,13 +154,11 @@ fn put_rows(image: &[u8], sheet: &[u8], session: Session, picture: &mut [u8]) ->
             k,
             p,
             h,
-            &mut *picture,
-            at,
         );
         cursor = chosen(k, here.cursor, p, cursor);
         marked = chosen_mark(k, here.cursor, mark, marked);
         count = known_next(count, k, h.last);
-        at = at + columns;
+        at = end;
         k = k + 1;
         p = h.next;
         left = left - 1;
@@ -182,13 +177,14 @@ fn write_picture(image: &[u8], sheet: &[u8], session: Session, picture: &mut [u8
     ensures { λ _. ⌜ now (picture .exit) ≡ pictureOf (now (image .entry)) (now (sheet .entry)) session ⌝ }
 {
     let known = put_rows(image, sheet, session, &mut *picture);
+    let columns = session.columns as usize;
     put_top(
+        &mut picture[..columns],
         image,
         session,
         known.count,
         known.place,
         known.mark,
-        &mut *picture,
     );
 }
 

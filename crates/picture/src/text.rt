@@ -1,13 +1,16 @@
-// What a component shows: the text of each kind, put behind what a row has.
+// What a component shows: the text of each kind, put into a row from a place on.
 ghost use mathlib.Core.Path.{_≡_};
-ghost use mathlib.Core.List.{[], _∷_, _++_};
-ghost use Prim.Native.Nat.{_-_, _≤_};
+ghost use Prim.Native.Nat.{_-_};
 ghost use lib.ListN.{getD};
 ghost use Rattle.field.specs.Cells.{cellsOf, workOf};
-ghost use Rattle.picture.specs.Row.{rowText, Behind};
-ghost use Rattle.picture.specs.Texts.{digitChar, signChar, digitCells, numeralText, decimal, plain, countText, alignedRight, paddedRight, timeText, yearCells, dateText, triggerText, cellsText, widthOf, fieldText, visiting, componentText};
+ghost use Rattle.picture.specs.Row.{Put};
+ghost use Rattle.picture.specs.Texts.{digitChar, signChar, digitCells, numeralText, decimal, countText, alignedRight, paddedRight, timeText, yearCells, dateText, triggerText, cellsText, widthOf, fieldText, visiting, componentText};
 ghost use Rattle.cmf.specs.Readers.{textBytes, itemPlace};
-use crate::row::Row;
+use crate::row::BLANK;
+use crate::row::put;
+use crate::row::put_all;
+use crate::row::repeat;
+use crate::row::smaller;
 use cmf::component::Component;
 use cmf::text::item_bytes;
 use cmf::text::string_bytes;
@@ -84,190 +87,217 @@ fn cell_at(cells: &[u32], i: usize) -> u64
     if i < cells.len() { cells[i] as u64 } else { 0 }
 }
 
-impl Row {
-    // The digits in count cells from one on.
-    fn digits(mut self, cells: &[u32], from: u8, count: u8) -> Self
-        ensures { λ r. ⌜ Behind (rowText self) (digitCells (now (cells .entry)) from count) (rowText r) ⌝ }
-    {
-        let mut at = from as usize;
-        let mut left = count;
-        while 0 < left {
-            let n = self.len;
-            if Row::CELLS <= n {
-                return self;
-            }
-            self.cells[n] = digit_char(cell_at(cells, at));
-            self.len = n + 1;
-            at = at + 1;
-            left = left - 1;
+// The digits in count cells from one on.
+fn put_digits(row: &mut [u8], at: usize, cells: &[u32], from: u8, count: u8) -> usize
+    ensures { λ r. ⌜ Put (now (row .entry)) at (digitCells (now (cells .entry)) from count) (now (row .exit)) r ⌝ }
+{
+    let mut n = at;
+    let mut i = from as usize;
+    let mut left = count;
+    while 0 < left {
+        if row.len() <= n {
+            return row.len();
         }
-        self
+        row[n] = digit_char(cell_at(cells, i));
+        n = n + 1;
+        i = i + 1;
+        left = left - 1;
     }
+    smaller(row.len(), n)
+}
 
-    fn numeral(self, n: Numeral, cells: &[u32]) -> Self
-        ensures { λ r. ⌜ Behind (rowText self) (numeralText n (now (cells .entry))) (rowText r) ⌝ }
-    {
-        if n.signs == 0 {
-            return self.digits(cells, 0, n.digits);
-        }
-        self.push(sign_char(cell_at(cells, 0)))
-            .digits(cells, 1, n.digits)
+fn put_numeral(row: &mut [u8], at: usize, n: Numeral, cells: &[u32]) -> usize
+    ensures { λ r. ⌜ Put (now (row .entry)) at (numeralText n (now (cells .entry))) (now (row .exit)) r ⌝ }
+{
+    if n.signs == 0 {
+        return put_digits(&mut *row, at, cells, 0, n.digits);
     }
+    let first = put(&mut *row, at, sign_char(cell_at(cells, 0)));
+    put_digits(&mut *row, first, cells, 1, n.digits)
+}
 
-    // The count lowest digits of a number, at most five; put together first, so that the row is written once.
-    fn decimal(self, count: u8, x: u64) -> Self
-        requires { ⌜ count ≤ 5 ⌝ }
-        ensures { λ r. ⌜ Behind (rowText self) (decimal count x) (rowText r) ⌝ }
-    {
-        let mut digits = [0u8; 5];
-        let n = count as usize;
-        let mut k = n;
-        let mut rest = x;
-        while 0 < k {
-            k = k - 1;
-            digits[k] = b'0' + (rest % 10) as u8;
-            rest = rest / 10;
-        }
-        self.push_all(&digits[..n])
+// The count lowest digits of a number, from the last on.
+fn put_decimal(row: &mut [u8], at: usize, count: u8, x: u64) -> usize
+    ensures { λ r. ⌜ Put (now (row .entry)) at (decimal count x) (now (row .exit)) r ⌝ }
+{
+    if row.len() <= at {
+        return row.len();
     }
+    let end = at + count as usize;
+    let mut k = end;
+    let mut rest = x;
+    while at < k {
+        k = k - 1;
+        put(&mut *row, k, b'0' + (rest % 10) as u8);
+        rest = rest / 10;
+    }
+    smaller(row.len(), end)
+}
 
-    // A counter's number, given with 32,768 added, right aligned.
-    fn counter(self, width: u8, x: u64) -> Self
-        ensures { λ r. ⌜ Behind (rowText self) (alignedRight width (countText x)) (rowText r) ⌝ }
-    {
-        let w = width as usize;
-        if x < 32768 {
-            let size = 32768 - x;
-            let n = places(size);
-            return self.repeat(Row::BLANK, less(w, 1 + n as usize))
-                .push(b'-')
-                .decimal(n, size);
-        }
-        let size = x - 32768;
+// A counter's number, given with 32,768 added, right aligned.
+fn put_counter(row: &mut [u8], at: usize, width: u8, x: u64) -> usize
+    ensures { λ r. ⌜ Put (now (row .entry)) at (alignedRight width (countText x)) (now (row .exit)) r ⌝ }
+{
+    let w = width as usize;
+    if x < 32768 {
+        let size = 32768 - x;
         let n = places(size);
-        self.repeat(Row::BLANK, less(w, n as usize))
-            .decimal(n, size)
+        let sign = repeat(&mut *row, at, BLANK, less(w, 1 + n as usize));
+        let first = put(&mut *row, sign, b'-');
+        return put_decimal(&mut *row, first, n, size);
     }
+    let size = x - 32768;
+    let n = places(size);
+    let first = repeat(&mut *row, at, BLANK, less(w, n as usize));
+    put_decimal(&mut *row, first, n, size)
+}
 
-    fn time(self, long: bool, cells: &[u32]) -> Self
-        ensures { λ r. ⌜ Behind (rowText self) (timeText long (now (cells .entry))) (rowText r) ⌝ }
-    {
-        let row = self.decimal(2, cell_at(cells, 0))
-            .push(b':')
-            .decimal(2, cell_at(cells, 1));
-        if long {
-            return row.push(b':').decimal(2, cell_at(cells, 2));
+fn put_time(row: &mut [u8], at: usize, long: bool, cells: &[u32]) -> usize
+    ensures { λ r. ⌜ Put (now (row .entry)) at (timeText long (now (cells .entry))) (now (row .exit)) r ⌝ }
+{
+    let hours = put_decimal(&mut *row, at, 2, cell_at(cells, 0));
+    let colon = put(&mut *row, hours, b':');
+    let minutes = put_decimal(&mut *row, colon, 2, cell_at(cells, 1));
+    if long {
+        let colon = put(&mut *row, minutes, b':');
+        return put_decimal(&mut *row, colon, 2, cell_at(cells, 2));
+    }
+    minutes
+}
+
+fn put_date(row: &mut [u8], at: usize, long: bool, cells: &[u32]) -> usize
+    ensures { λ r. ⌜ Put (now (row .entry)) at (dateText long (now (cells .entry))) (now (row .exit)) r ⌝ }
+{
+    let year = put_decimal(&mut *row, at, year_cells(long), cell_at(cells, 0));
+    let dash = put(&mut *row, year, b'-');
+    let month = put_decimal(&mut *row, dash, 2, cell_at(cells, 1));
+    let dash = put(&mut *row, month, b'-');
+    put_decimal(&mut *row, dash, 2, cell_at(cells, 2))
+}
+
+// An item of the option at a place, padded right.
+fn put_item(row: &mut [u8], at: usize, image: &[u8], place: usize, item: u64, longest: u8) -> usize
+    ensures { λ r. ⌜ Put (now (row .entry)) at (paddedRight longest (textBytes (now (image .entry)) (itemPlace (now (image .entry)) place item))) (now (row .exit)) r ⌝ }
+{
+    let text = item_bytes(image, place, item as usize);
+    let n = text.len();
+    let end = put_all(&mut *row, at, text);
+    repeat(&mut *row, end, BLANK, less(longest as usize, n))
+}
+
+fn put_trigger(row: &mut [u8], at: usize) -> usize
+    ensures { λ r. ⌜ Put (now (row .entry)) at triggerText (now (row .exit)) r ⌝ }
+{
+    let star = put(&mut *row, at, b'[');
+    let end = put(&mut *row, star, b'*');
+    put(&mut *row, end, b']')
+}
+
+// What the cells of a visit show at the component at a place.
+fn put_cells(
+    row: &mut [u8],
+    at: usize,
+    image: &[u8],
+    place: usize,
+    kind: Kind,
+    cells: &[u32],
+) -> usize
+    ensures { λ r. ⌜ Put (now (row .entry)) at (cellsText (now (image .entry)) place kind (now (cells .entry))) (now (row .exit)) r ⌝ }
+{
+    match kind {
+        Kind::Integer(f) => put_numeral(&mut *row, at, f.numeral(), cells),
+        Kind::Counter(s) => put_counter(&mut *row, at, s.width, cell_at(cells, 0)),
+        Kind::Time(long) => put_time(&mut *row, at, long, cells),
+        Kind::Date(long) => put_date(&mut *row, at, long, cells),
+        Kind::Switch(n) => put_numeral(&mut *row, at, Numeral::of_bits(n), cells),
+        Kind::Option { items: _, longest } => put_item(
+            &mut *row,
+            at,
+            image,
+            place,
+            cell_at(cells, 0),
+            longest,
+        ),
+        Kind::Trigger => put_trigger(&mut *row, at),
+    }
+}
+
+// What the cells of a number show.
+fn put_number(row: &mut [u8], at: usize, image: &[u8], place: usize, kind: Kind, x: u32) -> usize
+    ensures { λ r. ⌜ Put (now (row .entry)) at (cellsText (now (image .entry)) place kind (workOf (cellsOf kind x) .cells)) (now (row .exit)) r ⌝ }
+{
+    let shown = Work::showing(kind, x);
+    let cells = shown.cells;
+    put_cells(&mut *row, at, image, place, kind, &cells)
+}
+
+// The same; for an option, which has one cell, and a trigger none are made.
+fn put_value(row: &mut [u8], at: usize, image: &[u8], place: usize, kind: Kind, x: u32) -> usize
+    ensures { λ r. ⌜ Put (now (row .entry)) at (cellsText (now (image .entry)) place kind (workOf (cellsOf kind x) .cells)) (now (row .exit)) r ⌝ }
+{
+    match kind {
+        Kind::Integer(_) => put_number(&mut *row, at, image, place, kind, x),
+        Kind::Counter(_) => put_number(&mut *row, at, image, place, kind, x),
+        Kind::Time(_) => put_number(&mut *row, at, image, place, kind, x),
+        Kind::Date(_) => put_number(&mut *row, at, image, place, kind, x),
+        Kind::Switch(_) => put_number(&mut *row, at, image, place, kind, x),
+        Kind::Option { items: _, longest } => put_item(
+            &mut *row,
+            at,
+            image,
+            place,
+            x as u64,
+            longest,
+        ),
+        Kind::Trigger => put_trigger(&mut *row, at),
+    }
+}
+
+// What a field shows outside a visit.
+fn put_field(
+    row: &mut [u8],
+    at: usize,
+    image: &[u8],
+    sheet: &[u8],
+    place: usize,
+    field: Field,
+) -> usize
+    ensures { λ r. ⌜ Put (now (row .entry)) at (fieldText (now (image .entry)) (now (sheet .entry)) place field) (now (row .exit)) r ⌝ }
+{
+    let kind = field.kind;
+    let x = load(sheet, field.sheet, profile_of(kind).bytes).number();
+    let fits = in_range(kind, x);
+    if fits {
+        return put_value(&mut *row, at, image, place, kind, x);
+    }
+    repeat(&mut *row, at, b'#', width_of(kind))
+}
+
+// What the component at a place shows; the cells are those of the working copy.
+pub(crate) fn put_component(
+    row: &mut [u8],
+    at: usize,
+    image: &[u8],
+    sheet: &[u8],
+    session: Session,
+    cells: &[u32],
+    c: Component,
+    place: usize,
+) -> usize
+    requires { ⌜ now cells ≡ session .work .cells ⌝ }
+    ensures { λ r. ⌜ Put (now (row .entry)) at (componentText (now (image .entry)) (now (sheet .entry)) session place c) (now (row .exit)) r ⌝ }
+{
+    let field = c.field;
+    let kind = field.kind;
+    let mode = session.mode;
+    if c.holds {
+        let open = visits(mode, place);
+        if open {
+            return put_cells(&mut *row, at, image, place, kind, cells);
         }
-        row
+        return put_field(&mut *row, at, image, sheet, place, field);
     }
-
-    fn date(self, long: bool, cells: &[u32]) -> Self
-        ensures { λ r. ⌜ Behind (rowText self) (dateText long (now (cells .entry))) (rowText r) ⌝ }
-    {
-        let row = self.decimal(year_cells(long), cell_at(cells, 0)).push(b'-');
-        row.decimal(2, cell_at(cells, 1))
-            .push(b'-')
-            .decimal(2, cell_at(cells, 2))
-    }
-
-    // An item of the option at a place, padded right.
-    fn item(self, image: &[u8], place: usize, item: u64, longest: u8) -> Self
-        ensures { λ r. ⌜ Behind (rowText self) (paddedRight longest (textBytes (now (image .entry)) (itemPlace (now (image .entry)) place item))) (rowText r) ⌝ }
-    {
-        let text = item_bytes(image, place, item as usize);
-        let n = text.len();
-        self.push_all(text)
-            .repeat(Row::BLANK, less(longest as usize, n))
-    }
-
-    fn trigger(self) -> Self
-        ensures { λ r. ⌜ Behind (rowText self) triggerText (rowText r) ⌝ }
-    {
-        self.push(b'[').push(b'*').push(b']')
-    }
-
-    // What the cells of a visit show at the component at a place.
-    fn cells(self, image: &[u8], place: usize, kind: Kind, cells: &[u32]) -> Self
-        ensures { λ r. ⌜ Behind (rowText self) (cellsText (now (image .entry)) place kind (now (cells .entry))) (rowText r) ⌝ }
-    {
-        match kind {
-            Kind::Integer(f) => self.numeral(f.numeral(), cells),
-            Kind::Counter(s) => self.counter(s.width, cell_at(cells, 0)),
-            Kind::Time(long) => self.time(long, cells),
-            Kind::Date(long) => self.date(long, cells),
-            Kind::Switch(n) => self.numeral(Numeral::of_bits(n), cells),
-            Kind::Option { items: _, longest } => self.item(
-                image,
-                place,
-                cell_at(cells, 0),
-                longest,
-            ),
-            Kind::Trigger => self.trigger(),
-        }
-    }
-
-    // What the cells of a number show.
-    fn in_cells(self, image: &[u8], place: usize, kind: Kind, x: u32) -> Self
-        ensures { λ r. ⌜ Behind (rowText self) (cellsText (now (image .entry)) place kind (workOf (cellsOf kind x) .cells)) (rowText r) ⌝ }
-    {
-        let shown = Work::showing(kind, x);
-        let cells = shown.cells;
-        self.cells(image, place, kind, &cells)
-    }
-
-    // The same; for an option, which has one cell, and a trigger none are made.
-    fn in_field(self, image: &[u8], place: usize, kind: Kind, x: u32) -> Self
-        ensures { λ r. ⌜ Behind (rowText self) (cellsText (now (image .entry)) place kind (workOf (cellsOf kind x) .cells)) (rowText r) ⌝ }
-    {
-        match kind {
-            Kind::Integer(_) => self.in_cells(image, place, kind, x),
-            Kind::Counter(_) => self.in_cells(image, place, kind, x),
-            Kind::Time(_) => self.in_cells(image, place, kind, x),
-            Kind::Date(_) => self.in_cells(image, place, kind, x),
-            Kind::Switch(_) => self.in_cells(image, place, kind, x),
-            Kind::Option { items: _, longest } => self.item(image, place, x as u64, longest),
-            Kind::Trigger => self.trigger(),
-        }
-    }
-
-    // What a field shows outside a visit.
-    fn field(self, image: &[u8], sheet: &[u8], place: usize, field: Field) -> Self
-        ensures { λ r. ⌜ Behind (rowText self) (fieldText (now (image .entry)) (now (sheet .entry)) place field) (rowText r) ⌝ }
-    {
-        let kind = field.kind;
-        let x = load(sheet, field.sheet, profile_of(kind).bytes).number();
-        let fits = in_range(kind, x);
-        if fits {
-            return self.in_field(image, place, kind, x);
-        }
-        self.repeat(b'#', width_of(kind))
-    }
-
-    // What the component at a place shows; the cells are those of the working copy.
-    pub(crate) fn shown(
-        self,
-        image: &[u8],
-        sheet: &[u8],
-        session: Session,
-        cells: &[u32],
-        c: Component,
-        place: usize,
-    ) -> Self
-        requires { ⌜ now cells ≡ session .work .cells ⌝ }
-        ensures { λ r. ⌜ Behind (rowText self) (componentText (now (image .entry)) (now (sheet .entry)) session place c) (rowText r) ⌝ }
-    {
-        let field = c.field;
-        let kind = field.kind;
-        let mode = session.mode;
-        if c.holds {
-            let open = visits(mode, place);
-            if open {
-                return self.cells(image, place, kind, cells);
-            }
-            return self.field(image, sheet, place, field);
-        }
-        self.push_all(string_bytes(image, place))
-    }
+    put_all(&mut *row, at, string_bytes(image, place))
 }
 
 // Whether a visit of the component at a place is open.

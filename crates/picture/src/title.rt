@@ -2,15 +2,18 @@
 ghost use mathlib.Core.Path.{_≡_};
 ghost use mathlib.Core.List.{[], _∷_, _++_};
 ghost use Prim.Native.Nat.{_+_, _-_, _/_, _≤_};
-ghost use Rattle.session.specs.Fits.{mostColumns, cursorLine};
+ghost use lib.ListN.{length};
+ghost use Rattle.session.specs.Fits.{cursorLine};
 ghost use Rattle.cmf.specs.Places.{lineCount};
 ghost use Rattle.laws.specs.Choice.{if_then_else_, _<?_};
 ghost use Rattle.laws.specs.Overwrite.{over};
-ghost use Rattle.picture.specs.Row.{rowText, Behind};
 ghost use Rattle.session.specs.Passwords.{digit0};
 ghost use Rattle.picture.specs.Texts.{blank};
 ghost use Rattle.picture.specs.Rows.{editMark, lineNumber, moreMark, titleRow, passwordRow, topRow};
-use crate::row::Row;
+use crate::row::pad;
+use crate::row::put;
+use crate::row::put_all;
+use crate::row::repeat;
 use crate::text::less;
 use cmf::head::read_head;
 use cmf::text::text_bytes;
@@ -59,48 +62,44 @@ fn tens(n: usize) -> u8
 }
 
 // The mark of the cursor line, its number from 1, and the mark of more lines.
-fn marks(edit: u8, cursor: u8, more: u8) -> [u8; 4]
-    ensures { λ r. ⌜ r ≡ edit ∷ (lineNumber (cursor + 1) ++ (more ∷ [])) ⌝ }
+fn put_marks(row: &mut [u8], at: usize, edit: u8, cursor: u8, more: u8)
+    ensures { λ _. ⌜ now (row .exit) ≡ over (now (row .entry)) at (edit ∷ (lineNumber (cursor + 1) ++ (more ∷ []))) ⌝ }
 {
     let n = cursor as usize + 1;
-    let high = tens(n);
-    let low = b'0' + (n % 10) as u8;
-    [edit, high, low, more]
+    let high = put(&mut *row, at, edit);
+    let low = put(&mut *row, high, tens(n));
+    let last = put(&mut *row, low, b'0' + (n % 10) as u8);
+    put(&mut *row, last, more);
 }
 
 // The title with the marks and the number of the cursor line, which stands at a place; so many lines are counted as the mark of more lines tells.
-fn title_row(image: &[u8], session: Session, count: usize, line: usize, mark: u8) -> Row
-    requires { ⌜ (4 ≤ session .columns) × (session .columns ≤ mostColumns) × (1 ≤ session .lines) × (moreMark count (session .lines - 1) (session .here .cursor) ≡ moreMark (lineCount (now image) (session .here .table .0)) (session .lines - 1) (session .here .cursor)) × (line ≡ cursorLine (now image) (session .here)) × ((mark ≡ 0 → ⊥) → mark ≡ editMark (now image) (session .here)) ⌝ }
-    ensures { λ r. ⌜ rowText r ≡ titleRow (now (image .entry)) session ⌝ }
+fn put_title(row: &mut [u8], image: &[u8], session: Session, count: usize, line: usize, mark: u8)
+    requires { ⌜ (4 ≤ session .columns) × (length (now row) ≡ session .columns) × (1 ≤ session .lines) × (moreMark count (session .lines - 1) (session .here .cursor) ≡ moreMark (lineCount (now image) (session .here .table .0)) (session .lines - 1) (session .here .cursor)) × (line ≡ cursorLine (now image) (session .here)) × ((mark ≡ 0 → ⊥) → mark ≡ editMark (now image) (session .here)) ⌝ }
+    ensures { λ _. ⌜ now (row .exit) ≡ titleRow (now (image .entry)) session ⌝ }
 {
     let here = session.here;
     let columns = session.columns as usize;
     let cursor = here.cursor;
     let rows = session.lines as usize - 1;
-    let title = Row::new()
-        .push_all(text_bytes(image, here.table.0))
-        .fit(columns - 4);
+    let end = put_all(&mut *row, 0, text_bytes(image, here.table.0));
+    pad(&mut *row, end);
     let edit = edit_mark(image, here, line, mark);
-    let behind = marks(edit, cursor, more_mark(count, rows, cursor));
-    title.push_all(&behind)
+    let more = more_mark(count, rows, cursor);
+    put_marks(&mut *row, columns - 4, edit, cursor, more);
 }
 
 // The row of a password entry with so many digits typed.
-fn password_row(image: &[u8], session: Session, line: usize, typed: u8) -> Row
-    requires { ⌜ (session .columns ≤ mostColumns) × (line ≡ cursorLine (now image) (session .here)) ⌝ }
-    ensures { λ r. ⌜ rowText r ≡ passwordRow (now (image .entry)) session typed ⌝ }
+fn put_password(row: &mut [u8], image: &[u8], session: Session, line: usize, typed: u8)
+    requires { ⌜ (length (now row) ≡ session .columns) × (line ≡ cursorLine (now image) (session .here)) ⌝ }
+    ensures { λ _. ⌜ now (row .exit) ≡ passwordRow (now (image .entry)) session typed ⌝ }
 {
     let h = read_head(image, line);
     let digits = byte_at(image, h.password) as usize;
     let n = typed as usize;
-    let row = Row::new()
-        .push(b'P')
-        .push(b'w')
-        .push(b'd')
-        .push(b':')
-        .repeat(b'*', n);
-    row.repeat(b'.', less(digits, n))
-        .fit(session.columns as usize)
+    let stars = put_all(&mut *row, 0, b"Pwd:");
+    let dots = repeat(&mut *row, stars, b'*', n);
+    let end = repeat(&mut *row, dots, b'.', less(digits, n));
+    pad(&mut *row, end);
 }
 
 // Whether the entry of a password is open, and so many digits are typed.
@@ -131,20 +130,20 @@ fn entry_of(image: &[u8], session: Session) -> Entry
 
 // Writes row 0.
 pub(crate) fn put_top(
+    row: &mut [u8],
     image: &[u8],
     session: Session,
     count: usize,
     line: usize,
     mark: u8,
-    picture: &mut [u8],
 )
-    requires { ⌜ (4 ≤ session .columns) × (session .columns ≤ mostColumns) × (1 ≤ session .lines) × (moreMark count (session .lines - 1) (session .here .cursor) ≡ moreMark (lineCount (now image) (session .here .table .0)) (session .lines - 1) (session .here .cursor)) × (line ≡ cursorLine (now image) (session .here)) × ((mark ≡ 0 → ⊥) → mark ≡ editMark (now image) (session .here)) ⌝ }
-    ensures { λ _. ⌜ now (picture .exit) ≡ over (now (picture .entry)) 0 (topRow (now (image .entry)) session) ⌝ }
+    requires { ⌜ (4 ≤ session .columns) × (length (now row) ≡ session .columns) × (1 ≤ session .lines) × (moreMark count (session .lines - 1) (session .here .cursor) ≡ moreMark (lineCount (now image) (session .here .table .0)) (session .lines - 1) (session .here .cursor)) × (line ≡ cursorLine (now image) (session .here)) × ((mark ≡ 0 → ⊥) → mark ≡ editMark (now image) (session .here)) ⌝ }
+    ensures { λ _. ⌜ now (row .exit) ≡ topRow (now (image .entry)) session ⌝ }
 {
     let entry = entry_of(image, session);
     if entry.open {
-        password_row(image, session, line, entry.typed).put(&mut *picture, 0);
+        put_password(&mut *row, image, session, line, entry.typed);
         return;
     }
-    title_row(image, session, count, line, mark).put(&mut *picture, 0);
+    put_title(&mut *row, image, session, count, line, mark);
 }
