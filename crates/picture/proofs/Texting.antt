@@ -4,26 +4,31 @@ use mathlib.Core.Path.{_≡_, refl, sym, ap, _∙_}
 use mathlib.Core.Bool.{Bool, true, false}
 use mathlib.Core.List.{List, [], _∷_, _++_, append-nil}
 use native.Mathlib.Omega.{arith}
+use borrow.Author.Tests.{le-leb}
 use lib.ListN.{length, getD, replicate, length-append}
-use Rattle.laws.specs.Choice.{if_then_else_}
+use Rattle.laws.specs.Bytes.{byteAt}
+use Rattle.laws.specs.Choice.{if_then_else_, _≤?_, _and_}
 use Rattle.laws.proofs.Cases.{if-eq, if-ne, if-lt, if-ge, if-true, if-false}
-use Rattle.laws.specs.Overwrite.{over}
+use Rattle.laws.specs.Overwrite.{fit, over}
 use Rattle.laws.proofs.Overwriting.{over-nil, over-next}
 use Rattle.field.specs.Settings.{places}
-use Rattle.field.specs.Table.{profileOf}
+use Rattle.field.specs.Table.{profileOf, cellOf}
 use Rattle.field.specs.Values.{numberOf, valueAt}
-use Rattle.field.specs.Cells.{cellsOf, inRange, workOf}
+use Rattle.field.specs.Cells.{cellsOf, within, inRange, workOf}
+use Rattle.field.proofs.Ranges.{range-of-option, range-of-trigger}
+use Rattle.field.specs.declared.kind.Kind.the-variants.{Option, Trigger}
 use Rattle.field.specs.declared.numeral.Numeral.{Numeral}
 use Rattle.field.specs.declared.record.Field.{Field}
 use Rattle.field.specs.declared.table.Profile.{Profile}
 use Rattle.field.specs.declared.value.Value.{Value}
 use Rattle.field.specs.declared.work.Work.{Work}
-use Rattle.cmf.specs.Readers.{textBytes}
+use Rattle.cmf.specs.Readers.{textBytes, itemPlace}
+use Rattle.cmf.proofs.Usual.{one-byte}
 use Rattle.cmf.specs.declared.component.Component.{Component}
 use Rattle.session.specs.declared.session.Session.{Session}
 use Rattle.session.specs.Passwords.{digit0}
 use Rattle.picture.specs.Row.{Put}
-use Rattle.picture.specs.Texts.{blank, dash, colon, digitChar, signChar, digitCells, numeralText, decimal, countText, alignedRight, paddedRight, timeText, cellsText, widthOf, hash, sheetNumber, fieldText, visiting, componentText}
+use Rattle.picture.specs.Texts.{blank, dash, colon, digitChar, signChar, digitCells, numeralText, decimal, countText, alignedRight, paddedRight, timeText, triggerText, cellsText, widthOf, hash, sheetNumber, fieldText, visiting, componentText}
 use Rattle.picture.proofs.Writing.{behind, same, over-ahead}
 
 -- the next digit cell
@@ -127,6 +132,24 @@ unfolding fieldText
 field-out im sheet p f n k t e a b g d =
     let h : inRange (f .kind) (sheetNumber sheet f) ≡ false = rw (← e) (sym a ∙ b) in
     same (sym (if-false _ _ h)) (rw g at d)
+
+-- an option's number is its byte, and in range up to its last item
+option-number : (sheet : List ℕ) (f : Field) (n w : ℕ) → f .kind ≡ Option n w → sheetNumber sheet f ≡ byteAt sheet (f .sheet .0)
+unfolding profileOf
+option-number sheet f n w k = rw k (one-byte (f .sheet .0) sheet)
+
+option-range : (n w b : ℕ) → inRange (Option n w) b ≡ (b ≤? (n - 1))
+unfolding within cellOf _and_
+option-range n w b = range-of-option n w b ∙ rw (le-leb 0 b (omega arith))
+
+pub field-option : {x z : List ℕ} {at r : ℕ} (im sheet : List ℕ) (p : ℕ) (f : Field) (n w b : ℕ) → f .kind ≡ Option n w → b ≡ byteAt sheet (f .sheet .0)
+    → Put x at (if b ≤? (n - 1) then paddedRight w (textBytes im (itemPlace im p b)) else replicate w hash) z r → Put x at (fieldText im sheet p f) z r
+unfolding fieldText cellsText cellsOf workOf fit widthOf
+field-option im sheet p f n w b k e a = same (sym (rw (option-number sheet f n w k, ← e, k, option-range n w b))) a
+
+pub field-trigger : {x z : List ℕ} {at r : ℕ} (im sheet : List ℕ) (p : ℕ) (f : Field) → f .kind ≡ Trigger → Put x at triggerText z r → Put x at (fieldText im sheet p f) z r
+unfolding fieldText cellsText
+field-trigger im sheet p f k a = same (sym (rw (k, range-of-trigger) (if-true _ _ refl))) a
 
 module _ {x z : List ℕ} {at r : ℕ} (im sheet : List ℕ) (s : Session) (p : ℕ) (c : Component) where
   pub shown-visit : (t : Bool) → c .holds ≡ true → t ≡ visiting (s .mode) p → t ≡ true

@@ -1,10 +1,11 @@
 // What a component shows: the text of each kind, put into a row from a place on.
 ghost use mathlib.Core.Path.{_≡_};
 ghost use Prim.Native.Nat.{_-_};
-ghost use lib.ListN.{getD};
+ghost use lib.ListN.{getD, replicate};
+ghost use Rattle.laws.specs.Choice.{if_then_else_, _≤?_};
 ghost use Rattle.field.specs.Cells.{cellsOf, workOf};
 ghost use Rattle.picture.specs.Row.{Put};
-ghost use Rattle.picture.specs.Texts.{digitChar, signChar, digitCells, numeralText, decimal, countText, alignedRight, paddedRight, timeText, yearCells, dateText, triggerText, cellsText, widthOf, fieldText, visiting, componentText};
+ghost use Rattle.picture.specs.Texts.{hash, digitChar, signChar, digitCells, numeralText, decimal, countText, alignedRight, paddedRight, timeText, yearCells, dateText, triggerText, cellsText, widthOf, fieldText, visiting, componentText};
 ghost use Rattle.cmf.specs.Readers.{textBytes, itemPlace};
 use crate::row::BLANK;
 use crate::row::put;
@@ -22,6 +23,7 @@ use field::table::profile_of;
 use field::value::load;
 use field::work::Work;
 use field::work::in_range;
+use laws::byte_at;
 use session::session::Mode;
 use session::session::Session;
 
@@ -231,30 +233,8 @@ fn put_number(row: &mut [u8], at: usize, image: &[u8], place: usize, kind: Kind,
     put_cells(&mut *row, at, image, place, kind, &cells)
 }
 
-// The same; for an option, which has one cell, and a trigger none are made.
-fn put_value(row: &mut [u8], at: usize, image: &[u8], place: usize, kind: Kind, x: u32) -> usize
-    ensures { λ r. ⌜ Put (now (row .entry)) at (cellsText (now (image .entry)) place kind (workOf (cellsOf kind x) .cells)) (now (row .exit)) r ⌝ }
-{
-    match kind {
-        Kind::Integer(_) => put_number(&mut *row, at, image, place, kind, x),
-        Kind::Counter(_) => put_number(&mut *row, at, image, place, kind, x),
-        Kind::Time(_) => put_number(&mut *row, at, image, place, kind, x),
-        Kind::Date(_) => put_number(&mut *row, at, image, place, kind, x),
-        Kind::Switch(_) => put_number(&mut *row, at, image, place, kind, x),
-        Kind::Option { items: _, longest } => put_item(
-            &mut *row,
-            at,
-            image,
-            place,
-            x as u64,
-            longest,
-        ),
-        Kind::Trigger => put_trigger(&mut *row, at),
-    }
-}
-
-// What a field shows outside a visit.
-fn put_field(
+// What a field shows outside a visit, by the cells of its number.
+fn put_value(
     row: &mut [u8],
     at: usize,
     image: &[u8],
@@ -268,9 +248,58 @@ fn put_field(
     let x = load(sheet, field.sheet, profile_of(kind).bytes).number();
     let fits = in_range(kind, x);
     if fits {
-        return put_value(&mut *row, at, image, place, kind, x);
+        return put_number(&mut *row, at, image, place, kind, x);
     }
     repeat(&mut *row, at, b'#', width_of(kind))
+}
+
+// What an option shows outside a visit whose byte in the sheet is x.
+fn put_option(
+    row: &mut [u8],
+    at: usize,
+    image: &[u8],
+    place: usize,
+    x: u8,
+    items: u8,
+    longest: u8,
+) -> usize
+    ensures { λ r. ⌜ Put (now (row .entry)) at (if x ≤? (items - 1) then paddedRight longest (textBytes (now (image .entry)) (itemPlace (now (image .entry)) place x)) else replicate longest hash) (now (row .exit)) r ⌝ }
+{
+    if x as usize <= less(items as usize, 1) {
+        return put_item(&mut *row, at, image, place, x as u64, longest);
+    }
+    repeat(&mut *row, at, b'#', longest as usize)
+}
+
+// What a field shows outside a visit; for an option, which is one byte, and a trigger no cells are made.
+fn put_field(
+    row: &mut [u8],
+    at: usize,
+    image: &[u8],
+    sheet: &[u8],
+    place: usize,
+    field: Field,
+) -> usize
+    ensures { λ r. ⌜ Put (now (row .entry)) at (fieldText (now (image .entry)) (now (sheet .entry)) place field) (now (row .exit)) r ⌝ }
+{
+    let kind = field.kind;
+    match kind {
+        Kind::Integer(_) => put_value(&mut *row, at, image, sheet, place, field),
+        Kind::Counter(_) => put_value(&mut *row, at, image, sheet, place, field),
+        Kind::Time(_) => put_value(&mut *row, at, image, sheet, place, field),
+        Kind::Date(_) => put_value(&mut *row, at, image, sheet, place, field),
+        Kind::Switch(_) => put_value(&mut *row, at, image, sheet, place, field),
+        Kind::Option { items, longest } => put_option(
+            &mut *row,
+            at,
+            image,
+            place,
+            byte_at(sheet, field.sheet.0),
+            items,
+            longest,
+        ),
+        Kind::Trigger => put_trigger(&mut *row, at),
+    }
 }
 
 // What the component at a place shows; the cells are those of the working copy.

@@ -1,126 +1,55 @@
--- An option's one cell is the number itself.
+-- The sheet's value, or '#'.
 use borrow.Author.Needs.{needs}
-use Rattle.laws.specs.Overwrite.{fit}
-use Rattle.field.specs.Cells.{cellsOf, workOf}
-use Rattle.picture.specs.Texts.{cellsText}
+use mathlib.Core.Path.{refl}
+use Rattle.picture.proofs.Texting.{number-is, field-in, field-out}
 use Rattle.picture.proofs.text.put_value.Statement.{statement}
 use Rattle.picture.proofs.text.put_value.Tie as tie
 
-enum-told : tie.Need-enum-told
-enum-told c = search needs
+profile-of-requires : tie.Need-profile-of-requires
+profile-of-requires c κs = search needs
+
+load-requires : tie.Need-load-requires
+load-requires c κs = search needs
+
+number-requires : tie.Need-number-requires
+number-requires c κs = search needs
+
+in-range-requires : tie.Need-in-range-requires
+in-range-requires c κs = search needs
 
 put-number-requires : tie.Need-put-number-requires
 put-number-requires c κs = search needs
-
-enum-told-2 : tie.Need-enum-told-2
-enum-told-2 c = search needs
-
-put-number-requires-2 : tie.Need-put-number-requires-2
-put-number-requires-2 c κs = search needs
-
-enum-told-3 : tie.Need-enum-told-3
-enum-told-3 c = search needs
-
-put-number-requires-3 : tie.Need-put-number-requires-3
-put-number-requires-3 c κs = search needs
-
-enum-told-4 : tie.Need-enum-told-4
-enum-told-4 c = search needs
-
-put-number-requires-4 : tie.Need-put-number-requires-4
-put-number-requires-4 c κs = search needs
-
-enum-told-5 : tie.Need-enum-told-5
-enum-told-5 c = search needs
-
-put-number-requires-5 : tie.Need-put-number-requires-5
-put-number-requires-5 c κs = search needs
-
-enum-known-kind : tie.Need-enum-known-kind
-enum-known-kind c = search needs
-
-put-item-requires : tie.Need-put-item-requires
-put-item-requires c κs = search needs
-
-enum-told-6 : tie.Need-enum-told-6
-enum-told-6 c = search needs
-
-put-trigger-requires : tie.Need-put-trigger-requires
-put-trigger-requires c κs = search needs
 
 same-length : tie.Need-same-length
 same-length c = search needs
 
 returns : tie.Need-returns
-returns c = search needs
+returns c = field-in _ _ _ (c .before .before .before .before .before .before .before .before .before .before .before .before .args .field) _ _ _ (number-is _ (c .before .before .before .before .before .before .before .before .before .before .before .before .args .field) _ _ _ (c .before .before .before .before .before .before .before .before .profile-of .ensures) (c .before .before .before .before .before .before .before .load .ensures) (c .before .before .before .before .before .before .number .ensures)) (c .before .before .before .before .before .in-range .ensures) (c .before .before .before .before .if1 .taken) refl (c .before .before .put-number .ensures)
+
+width-of-requires : tie.Need-width-of-requires
+width-of-requires c κs = search needs
+
+repeat-requires : tie.Need-repeat-requires
+repeat-requires c κs = search needs
 
 same-length-2 : tie.Need-same-length-2
 same-length-2 c = search needs
 
 returns-2 : tie.Need-returns-2
-returns-2 c = search needs
-
-same-length-3 : tie.Need-same-length-3
-same-length-3 c = search needs
-
-returns-3 : tie.Need-returns-3
-returns-3 c = search needs
-
-same-length-4 : tie.Need-same-length-4
-same-length-4 c = search needs
-
-returns-4 : tie.Need-returns-4
-returns-4 c = search needs
-
-same-length-5 : tie.Need-same-length-5
-same-length-5 c = search needs
-
-returns-5 : tie.Need-returns-5
-returns-5 c = search needs
-
-same-length-6 : tie.Need-same-length-6
-same-length-6 c = search needs
-
-returns-6 : tie.Need-returns-6
-unfolding cellsText cellsOf workOf fit
-returns-6 c = rw (c .before .before .before .before .before .kind .given .1) (c .before .before .put-item .ensures)
-
-same-length-7 : tie.Need-same-length-7
-same-length-7 c = search needs
-
-returns-7 : tie.Need-returns-7
-unfolding cellsText
-returns-7 c = rw (c .before .before .before .before .enum-told6 .given .1) (c .before .before .put-trigger .ensures)
+returns-2 c = field-out _ _ _ (c .before .before .before .before .before .before .before .before .before .before .before .before .before .args .field) _ _ _ (number-is _ (c .before .before .before .before .before .before .before .before .before .before .before .before .before .args .field) _ _ _ (c .before .before .before .before .before .before .before .before .before .profile-of .ensures) (c .before .before .before .before .before .before .before .before .load .ensures) (c .before .before .before .before .before .before .before .number .ensures)) (c .before .before .before .before .before .before .in-range .ensures) (c .before .before .before .before .before .if1 .left) (c .before .before .before .width-of .ensures) (c .before .before .repeat .ensures)
 
 pub put-value-spec : {M : Type 1} → statement M
 put-value-spec =
     tie.close
     (tie.spec
-    enum-told
+    profile-of-requires
+    load-requires
+    number-requires
+    in-range-requires
     put-number-requires
-    enum-told-2
-    put-number-requires-2
-    enum-told-3
-    put-number-requires-3
-    enum-told-4
-    put-number-requires-4
-    enum-told-5
-    put-number-requires-5
-    enum-known-kind
-    put-item-requires
-    enum-told-6
-    put-trigger-requires
     same-length
     returns
+    width-of-requires
+    repeat-requires
     same-length-2
-    returns-2
-    same-length-3
-    returns-3
-    same-length-4
-    returns-4
-    same-length-5
-    returns-5
-    same-length-6
-    returns-6
-    same-length-7
-    returns-7)
+    returns-2)
