@@ -25,12 +25,12 @@ use Rattle.cmf.proofs.Runs.{none-ends, text-texts, texts-text}
 use Rattle.cmf.proofs.Parts.{Laid, laid-after, laid-inside, laid-read, read-laid}
 
 -- a test of each number below a bound, by computing it
-abbrev passAll : (ℕ → Bool) → ℕ → Bool
+abbrev pub passAll : (ℕ → Bool) → ℕ → Bool
 passAll test zero = true
 passAll test (suc n) = test n and passAll test n
 
 -- so each of them passes it
-passes : (test : ℕ → Bool) (n : ℕ) → passAll test n ≡ true → (c : ℕ) → c < n → test c ≡ true
+pub passes : (test : ℕ → Bool) (n : ℕ) → passAll test n ≡ true → (c : ℕ) → c < n → test c ≡ true
 passes test zero e c h = absurd (omega arith)
 passes test (suc n) e c h =
     by-test (c =? n) (λ q. rw (eqb-true c n q) (and-l _ _ e)) (λ q. passes test n (and-r (test n) _ e) c (omega (arith, eqb-false c n q)))

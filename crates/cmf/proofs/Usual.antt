@@ -58,22 +58,22 @@ module _ (im : List ℕ) (at code tag : ℕ) (known : code < 0x18) where
 -- ---- fields
 
 -- the default of a short integer has one byte, that of a long one two
+pub short-bytes : (c : ℕ) → c ≤ 0x04 → profileOf (Integer (formatOf c)) .bytes ≡ 1
+unfolding fixedBytes
+short-bytes c h = let e : fixedBytes c 0 ≡ 7 = if-le c 0x04 _ _ h in omega (arith, integer-bytes c 0 (omega arith))
+
+pub long-bytes : (c : ℕ) → 0x04 < c → c ≤ 0x0a → profileOf (Integer (formatOf c)) .bytes ≡ 2
+unfolding fixedBytes
+long-bytes c l h = let e : fixedBytes c 0 ≡ 8 = if-gt c 0x04 _ _ l ∙ if-le c 0x0a _ _ h in omega (arith, integer-bytes c 0 h)
+
 module _ (im : List ℕ) (at c : ℕ) where
-  short-bytes : c ≤ 0x04 → profileOf (Integer (formatOf c)) .bytes ≡ 1
-  unfolding fixedBytes
-  short-bytes h = let e : fixedBytes c 0 ≡ 7 = if-le c 0x04 _ _ h in omega (arith, integer-bytes c 0 (omega arith))
-
-  long-bytes : 0x04 < c → c ≤ 0x0a → profileOf (Integer (formatOf c)) .bytes ≡ 2
-  unfolding fixedBytes
-  long-bytes l h = let e : fixedBytes c 0 ≡ 8 = if-gt c 0x04 _ _ l ∙ if-le c 0x0a _ _ h in omega (arith, integer-bytes c 0 h)
-
   pub short-integer : c ≤ 0x04
       → record { image = record { 0 = at }; sheet = record { 0 = wordAt im (at + 4) }; kind = Integer (formatOf c); default = valueAt (at + 6) 1 im } ≡ fieldBy im at c
-  short-integer h = sym (integer-field im at c (omega arith) ∙ rw (short-bytes h))
+  short-integer h = sym (integer-field im at c (omega arith) ∙ rw (short-bytes c h))
 
   pub long-integer : 0x04 < c → c ≤ 0x0a
       → record { image = record { 0 = at }; sheet = record { 0 = wordAt im (at + 4) }; kind = Integer (formatOf c); default = valueAt (at + 6) 2 im } ≡ fieldBy im at c
-  long-integer l h = sym (integer-field im at c h ∙ rw (long-bytes l h))
+  long-integer l h = sym (integer-field im at c h ∙ rw (long-bytes c l h))
 
   -- what counts as a trigger has no bytes
   pub trigger-field : kindAt im at c ≡ Trigger

@@ -10,3 +10,4 @@ pub mod Apart
 pub mod Outcomes
 pub mod Counted
 pub mod Worked
+pub mod Fitting

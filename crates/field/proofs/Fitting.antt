@@ -1,0 +1,85 @@
+-- Settings that fit, told by tests on a default's number, and that number told by its bytes.
+use Prim.Native.Nat.{ℕ, _+_, _-_, _*_, _/_, _%_, _≤_, _<_}
+use mathlib.Core.Path.{_≡_, _∙_}
+use mathlib.Core.Bool.{Bool, true}
+use mathlib.Core.List.{List}
+use native.Mathlib.Omega.{arith}
+use borrow.Author.Tests.{le-leb, lt-ltb}
+use Rattle.laws.specs.Choice.{if_then_else_, _and_, _≤?_}
+use Rattle.laws.specs.Bytes.{byteAt, wordAt}
+use Rattle.laws.specs.Digits.{fromLow, numberFrom}
+use Rattle.laws.proofs.Cases.{if-le, by-test, and-i}
+use Rattle.field.specs.Formats.{numeralOf}
+use Rattle.field.specs.Table.{cellOf}
+use Rattle.field.specs.Cells.{spans, within, inRange}
+use Rattle.field.specs.Settings.{stepFits, widthFits, goodSettings, settingsFit}
+use Rattle.field.specs.Values.{numberOf, valueAt}
+use Rattle.field.specs.declared.kind.Format.{Format}
+use Rattle.field.specs.declared.kind.Kind.the-variants.{Integer, Counter, Time, Date}
+use Rattle.field.specs.declared.kind.CounterSettings.{CounterSettings}
+use Rattle.field.specs.declared.numeral.Numeral.{Numeral}
+use Rattle.field.specs.declared.table.Cell.{Cell}
+use Rattle.field.specs.declared.value.Value.{Value}
+use Rattle.field.proofs.Padded.{part-four}
+use Rattle.field.proofs.Ranges.{range-of-integer, range-of-time, range-of-date}
+
+-- ---- the number in two, three and four bytes
+
+module _ (at : ℕ) (s : List ℕ) where
+  pub two-bytes : numberOf (valueAt at 2 s) ≡ wordAt s at
+  unfolding numberOf fromLow numberFrom if_then_else_ wordAt
+  two-bytes = rw (part-four at 2 s) (omega arith)
+
+  pub three-bytes : numberOf (valueAt at 3 s) ≡ byteAt s at + 256 * byteAt s (at + 1) + 65536 * byteAt s (at + 2)
+  unfolding numberOf fromLow numberFrom if_then_else_
+  three-bytes = rw (part-four at 3 s) (omega arith)
+
+  pub four-bytes : numberOf (valueAt at 4 s) ≡ byteAt s at + 256 * byteAt s (at + 1) + 65536 * (byteAt s (at + 2) + 256 * byteAt s (at + 3))
+  unfolding numberOf fromLow numberFrom if_then_else_
+  four-bytes = rw (part-four at 4 s) (omega arith)
+
+-- ---- integers
+
+-- a number up to the highest, and one from where those begin that stand for numbers below 0
+pub spans-above : (n : Numeral) (x : ℕ) → x ≤ n .above → spans n x ≡ true
+unfolding spans
+spans-above n x h = if-le x (n .above) _ _ h
+
+pub spans-below : (n : Numeral) (x : ℕ) → n .limit - n .below ≤ x → x < n .limit → spans n x ≡ true
+unfolding spans if_then_else_
+spans-below n x l h = let e = and-i (le-leb (n .limit - n .below) x l) (lt-ltb x (n .limit) h) in by-test (x ≤? n .above) (λ t. rw t) (λ t. rw t e)
+
+pub integer-fits : (f : Format) (v : Value) → spans (numeralOf f) (numberOf v) ≡ true → settingsFit (Integer f) v ≡ true
+unfolding settingsFit goodSettings _and_
+integer-fits f v h = range-of-integer f (numberOf v) ∙ h
+
+-- ---- counters, times and dates
+
+pub counter-fits :
+    (s : CounterSettings) (v : Value) → stepFits s ≡ true → widthFits s ≡ true → inRange (Counter s) (numberOf v) ≡ true →
+    settingsFit (Counter s) v ≡ true
+unfolding settingsFit goodSettings
+counter-fits s v a b r = and-i (and-i a b) r
+
+-- a number between the ends of a cell
+within-ends : (c : Cell) {x : ℕ} → c .low ≤ x → x ≤ c .high → within c x ≡ true
+unfolding within
+within-ends c l h = and-i (le-leb _ _ l) (le-leb _ _ h)
+
+pub time-fits :
+    (long : Bool) (v : Value) → numberOf v % 256 ≤ 23 → numberOf v / 256 % 256 ≤ 59 → (if long then numberOf v / 65536 % 256 else 0) ≤ 59 →
+    settingsFit (Time long) v ≡ true
+unfolding settingsFit goodSettings cellOf _and_ if_then_else_
+time-fits long v h m s =
+    let k = Time long in
+    range-of-time long (numberOf v)
+    ∙ and-i (and-i (within-ends (cellOf k 0) (omega arith) h) (within-ends (cellOf k 1) (omega arith) m)) (within-ends (cellOf k 2) (omega arith) s)
+
+pub date-fits :
+    (long : Bool) (v : Value) → numberOf v / 65536 ≤ (if long then 9999 else 99) → 1 ≤ numberOf v / 256 % 256 → numberOf v / 256 % 256 ≤ 12 →
+    1 ≤ numberOf v % 256 → numberOf v % 256 ≤ 31 → settingsFit (Date long) v ≡ true
+unfolding settingsFit goodSettings cellOf _and_ if_then_else_
+date-fits long v y m n d e =
+    let k = Date long in
+    range-of-date long (numberOf v)
+    ∙ and-i (and-i (within-ends (cellOf k 0) (omega arith) y) (within-ends (cellOf k 1) m n)) (within-ends (cellOf k 2) d e)
