@@ -22,5 +22,6 @@ pub mod Ranges
 pub mod FaultCases
 pub mod Marks
 pub mod Pieces
+pub mod FixedFields
 pub mod Accepting
 pub mod AcceptingTables

@@ -49,6 +49,13 @@ pub record Passes (im : List ℕ) (sheet p : ℕ) (v w : Stage) (old new : List 
   pub lines : w .lines ≡ v .lines
   pub claims : Claims sheet old new (v .fields) (w .fields) fields
 
+-- a field that the grammar has, with its place in the sheet behind the call address, and so many bytes there
+pub record Held (im : List ℕ) (at end size : ℕ) : Type 0 where
+  pub field : Field
+  pub component : Component im at end (field ∷ [])
+  pub place : field .sheet .0 ≡ wordAt im (at + 4)
+  pub bytes : sizeOf field ≡ size
+
 -- every byte of the entries is marked
 pub data Covers (marks : List ℕ) : List Entry → Type 0 where
   none : Covers marks []

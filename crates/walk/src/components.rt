@@ -1,4 +1,4 @@
-// The components of a line in the quick walk: constant strings and options are told by a few tests, all others are read whole.
+// The components of a line in the quick walk: constant strings, options and fields without texts are told by a few tests, switches are read whole.
 ghost use mathlib.Core.Path.{_≡_};
 ghost use mathlib.Core.Bool.{true};
 ghost use mathlib.Core.List.{[], _∷_};
@@ -13,6 +13,7 @@ ghost use Rattle.walk.specs.Check.{onComponents};
 ghost use Rattle.walk.specs.Accept.{Passes, Reaches};
 use crate::check::is_padded;
 use crate::claim::claim;
+use crate::fixed::accept_fixed;
 use crate::heads::word_in;
 use crate::stage::Stage;
 use cmf::component::read_component;
@@ -141,7 +142,10 @@ fn accept_field(image: &[u8], sheet: usize, p: usize, w: Stage, marks: &mut [u64
     if image[p] % 32 == 0x14 {
         return accept_option(image, sheet, p, w, &mut *marks);
     }
-    accept_any(image, sheet, p, w, &mut *marks)
+    if image[p] % 32 == 0x13 {
+        return accept_any(image, sheet, p, w, &mut *marks);
+    }
+    accept_fixed(image, sheet, p, w, &mut *marks)
 }
 
 // The component at p, which is the first even place behind where the walk stands.

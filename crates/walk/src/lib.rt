@@ -3,6 +3,7 @@ pub mod accept;
 pub mod check;
 mod claim;
 mod components;
+mod fixed;
 mod heads;
 pub mod index;
 pub mod stage;

@@ -1,4 +1,4 @@
--- Each return is one of the two.
+-- Each return is one of the three.
 use Rattle.walk.proofs.Stood.{clash}
 use borrow.Author.Needs.{needs}
 use Rattle.walk.proofs.components.accept_field.Statement.{statement}
@@ -22,6 +22,9 @@ same-length c = search needs
 returns-2 : tie.Need-returns-2
 returns-2 c = search needs
 
+shared-slice-read-if3 : tie.Need-shared-slice-read-if3
+shared-slice-read-if3 c = search needs
+
 accept-any-requires : tie.Need-accept-any-requires
 accept-any-requires c κs = search needs
 
@@ -30,6 +33,15 @@ same-length-2 c = search needs
 
 returns-3 : tie.Need-returns-3
 returns-3 c = search needs
+
+accept-fixed-requires : tie.Need-accept-fixed-requires
+accept-fixed-requires c κs = search needs
+
+same-length-3 : tie.Need-same-length-3
+same-length-3 c = search needs
+
+returns-4 : tie.Need-returns-4
+returns-4 c = search needs
 
 pub accept-field-spec : {M : Type 1} → statement M
 accept-field-spec =
@@ -41,6 +53,10 @@ accept-field-spec =
     accept-option-requires
     same-length
     returns-2
+    shared-slice-read-if3
     accept-any-requires
     same-length-2
-    returns-3)
+    returns-3
+    accept-fixed-requires
+    same-length-3
+    returns-4)
