@@ -1,27 +1,27 @@
 -- Settings that fit, told by tests on a default's number, and that number told by its bytes.
-use Prim.Native.Nat.{ℕ, _+_, _-_, _*_, _/_, _%_, _≤_, _<_}
-use mathlib.Core.Path.{_≡_, _∙_}
+use Prim.Native.Nat.{ℕ, _+_, _-_, _*_, _/_, _%_, _^_, _≤_, _<_}
+use mathlib.Core.Path.{_≡_, refl, _∙_}
 use mathlib.Core.Bool.{Bool, true}
 use mathlib.Core.List.{List}
 use native.Mathlib.Omega.{arith}
-use borrow.Author.Tests.{le-leb, lt-ltb}
-use Rattle.laws.specs.Choice.{if_then_else_, _and_, _≤?_}
+use borrow.Author.Tests.{le-leb, lt-ltb, ltb-false}
+use Rattle.laws.specs.Choice.{if_then_else_, _and_, _<?_, _≤?_}
 use Rattle.laws.specs.Bytes.{byteAt, wordAt}
 use Rattle.laws.specs.Digits.{fromLow, numberFrom}
-use Rattle.laws.proofs.Cases.{if-le, by-test, and-i}
-use Rattle.field.specs.Formats.{numeralOf}
+use Rattle.laws.proofs.Cases.{if-ind, if-le, by-test, and-i}
+use Rattle.field.specs.Formats.{numeralOf, bitsIn, bitsOf}
 use Rattle.field.specs.Table.{cellOf}
 use Rattle.field.specs.Cells.{spans, within, inRange}
 use Rattle.field.specs.Settings.{stepFits, widthFits, goodSettings, settingsFit}
 use Rattle.field.specs.Values.{numberOf, valueAt}
 use Rattle.field.specs.declared.kind.Format.{Format}
-use Rattle.field.specs.declared.kind.Kind.the-variants.{Integer, Counter, Time, Date}
+use Rattle.field.specs.declared.kind.Kind.the-variants.{Integer, Counter, Time, Date, Switch}
 use Rattle.field.specs.declared.kind.CounterSettings.{CounterSettings}
 use Rattle.field.specs.declared.numeral.Numeral.{Numeral}
 use Rattle.field.specs.declared.table.Cell.{Cell}
 use Rattle.field.specs.declared.value.Value.{Value}
 use Rattle.field.proofs.Padded.{part-four}
-use Rattle.field.proofs.Ranges.{range-of-integer, range-of-time, range-of-date}
+use Rattle.field.proofs.Ranges.{range-of-integer, range-of-time, range-of-date, range-of-switch}
 
 -- ---- the number in two, three and four bytes
 
@@ -83,3 +83,15 @@ date-fits long v y m n d e =
     let k = Date long in
     range-of-date long (numberOf v)
     ∙ and-i (and-i (within-ends (cellOf k 0) (omega arith) y) (within-ends (cellOf k 1) m n)) (within-ends (cellOf k 2) d e)
+
+-- ---- switches
+
+few-bits : (n : ℕ) → n ≤ 32 → bitsIn n ≡ n
+unfolding bitsIn
+few-bits n h = if-ind (λ (x : ℕ). x ≡ n) (n <? 32) (λ _. refl) (λ e. let q = ltb-false n 32 e in omega arith)
+
+pub switch-fits : (n : ℕ) (v : Value) → 1 ≤ n → n ≤ 32 → numberOf v < 2 ^ n → settingsFit (Switch n) v ≡ true
+unfolding settingsFit goodSettings
+switch-fits n v a b h =
+    let e = few-bits n b in
+    and-i (and-i (le-leb 1 n a) (le-leb n 32 b)) (range-of-switch n (numberOf v) ∙ spans-above (bitsOf n) (numberOf v) (rw e (omega arith)))

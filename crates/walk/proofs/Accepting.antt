@@ -8,19 +8,17 @@ use lib.ListN.{length, length-append}
 use Rattle.laws.specs.Bytes.{wordAt}
 use Rattle.laws.proofs.Cases.{if-true, if-false}
 use Rattle.field.specs.Table.{profileOf}
-use Rattle.field.specs.Sheet.{sizeOf}
 use Rattle.field.specs.declared.record.Field.{Field}
 use Rattle.cmf.specs.Limits.{mostFields, longestSheet}
 use Rattle.cmf.specs.Readers.{evenFrom, oddFrom, componentAt}
 use Rattle.cmf.specs.Places.{componentsFrom}
 use Rattle.cmf.specs.Layouts.{Aligned, Component, optionAt, lastBit}
-use Rattle.cmf.specs.declared.component.Component as read
 use Rattle.cmf.proofs.Agreement.{Agree}
 use Rattle.cmf.proofs.Agreeing.{agree}
 use Rattle.walk.specs.declared.stage.Stage.{Stage}
 use Rattle.walk.specs.declared.index.Entry.{Entry}
 use Rattle.walk.specs.Check.{State, fine, andThen, padded, entryOf, onComponent, onComponents}
-use Rattle.walk.specs.Accept.{Claimed, Claims, Passes, Covers, Stands, Reaches}
+use Rattle.walk.specs.Accept.{Claimed, Claims, Passes, Covers, Stands, Reaches, PartsLeft, AmongParts}
 use Rattle.walk.proofs.Stood.{stood, put}
 use Rattle.walk.proofs.Takes.{Takes, sheet-is}
 use Rattle.walk.proofs.Steps.{padded-reads, component-goes}
@@ -62,23 +60,12 @@ module _ (im : List ℕ) where
   claims-cover es c (Claims.none a b) = rw (append-nil, a) c
   claims-cover {old = old} {new = new} es c (Claims.one {f = f} a b d) = covers-add new (entryOf f) (covers-kept old new (d .kept) c) (d .marked)
 
-  -- an option, and a field of any kind
+  -- an option
   pub option-passes :
       {sheet p end from : ℕ} {v : Stage} {old new : List ℕ} (good : Bool) → Component im p end (optionAt im p ∷ []) → from ≡ wordAt im (p + 4) → v .fields < mostFields → Claimed sheet old new from 1 →
       Passes im sheet p v (record { good = good; at = end; lines = v .lines; fields = v .fields + 1 }) old new
   unfolding profileOf
   option-passes {p = p} good c e n k = record { fields = optionAt im p ∷ []; component = c; lines = refl; claims = Claims.one n refl (rw e at k) }
-
-  pub any-passes :
-      {sheet p size : ℕ} {c : read.Component} {v : Stage} {old new : List ℕ} (good : Bool) → c ≡ componentAt im p → c .refusal ≡ 0 → c .holds ≡ true → v .fields < mostFields → size ≡ sizeOf (c .field) →
-      Claimed sheet old new (c .field .sheet .0) size → Passes im sheet p v (record { good = good; at = c .end; lines = v .lines; fields = v .fields + 1 }) old new
-  any-passes {p = p} good e =
-      rw e (λ z h n b k. record {
-        fields = componentAt im p .field ∷ [];
-        component = rw (if-true (componentAt im p .field ∷ []) [] h) at (A .component-reads p z .component);
-        lines = refl;
-        claims = Claims.one n refl (rw b at k);
-      })
 
   component-stands :
       {sheet : ℕ} {v w : Stage} {old new : List ℕ} (p : ℕ) (s : State) → sheet ≤ longestSheet → Aligned im 0 (v .at) p → Passes im sheet p v w old new → Stands v old s →
@@ -99,17 +86,7 @@ module _ (im : List ℕ) where
 
   -- ---- the components of a line: those that are left, done to a state that stands, are the whole
 
-  pub record Gone (first : ℕ) (sheet : ℕ) (s : State) (v : Stage) (m : List ℕ) : Type 0 where
-    pub here : State
-    pub fuel : ℕ
-    pub stands : Stands v m here
-    pub rest : onComponents im sheet mostFields (componentsFrom im (length im + 1) first) s ≡ onComponents im sheet mostFields (componentsFrom im fuel (evenFrom (v .at))) here
-    pub enough : length im < v .at + fuel
-
-  pub record Going (sheet : ℕ) (u v : Stage) (old new : List ℕ) : Type 0 where
-    pub go : (s : State) → sheet ≤ longestSheet → Stands u old s → Gone (evenFrom (u .at)) sheet s v new
-
-  pub going-start : (sheet : ℕ) (u : Stage) (m : List ℕ) → Going sheet u u m m
+  pub going-start : (sheet : ℕ) (u : Stage) (m : List ℕ) → AmongParts im sheet u u m m
   going-start sheet u m = record { go = λ s h t. record { here = s; fuel = length im + 1; stands = t; rest = refl; enough = omega arith } }
 
   module _ {sheet : ℕ} {v w : Stage} {mid new : List ℕ} (a : Aligned im 0 (v .at) (evenFrom (v .at))) (q : Passes im sheet (evenFrom (v .at)) v w mid new) where
@@ -129,15 +106,18 @@ module _ (im : List ℕ) where
     pub onward : v .at < w .at
     onward = omega (arith, A .component-reads p reads-none .after, A .component-is (q .component) .ends)
 
+    pub part-fits : w .at ≤ length im
+    part-fits = omega (arith, A .component-reads p reads-none .inside, A .component-is (q .component) .ends)
+
     inside : v .at < length im
     inside = omega (arith, A .component-reads p reads-none .after, A .component-reads p reads-none .inside)
 
     -- one component, and then the others
-    more-go : (first : ℕ) (s : State) → sheet ≤ longestSheet → lastBit im p ≡ 0 → Gone first sheet s v mid → Gone first sheet s w new
+    more-go : (first : ℕ) (s : State) → sheet ≤ longestSheet → lastBit im p ≡ 0 → PartsLeft im sheet first s v mid → PartsLeft im sheet first s w new
     unfolding componentsFrom onComponents
     more-go first s h z g = by (g .fuel) refl
       where
-        by : (k : ℕ) → g .fuel ≡ k → Gone first sheet s w new
+        by : (k : ℕ) → g .fuel ≡ k → PartsLeft im sheet first s w new
         by zero e = absurd (omega (arith, g .enough, inside))
         by (suc k) e =
             let t = component-stands p (g .here) h a q (g .stands) in
@@ -153,7 +133,7 @@ module _ (im : List ℕ) where
             }
 
     -- the last one
-    last-go : (first : ℕ) (s : State) → sheet ≤ longestSheet → lastBit im p ≡ 1 → Gone first sheet s v mid →
+    last-go : (first : ℕ) (s : State) → sheet ≤ longestSheet → lastBit im p ≡ 1 → PartsLeft im sheet first s v mid →
         Stands w new (onComponents im sheet mostFields (componentsFrom im (length im + 1) first) s)
     unfolding componentsFrom onComponents
     last-go first s h z g = by (g .fuel) refl
@@ -164,10 +144,10 @@ module _ (im : List ℕ) where
             let t = component-stands p (g .here) h a q (g .stands) in
             rw (g .rest, e, if-true [] (componentsFrom im k (componentAt im p .next)) (last-is (componentAt im p .last) refl .1 z), stands-then (onComponent im sheet mostFields p (g .here)) t) t
 
-    pub going-more : {u : Stage} {old : List ℕ} → lastBit im p ≡ 0 → Going sheet u v old mid → Going sheet u w old new
+    pub going-more : {u : Stage} {old : List ℕ} → lastBit im p ≡ 0 → AmongParts im sheet u v old mid → AmongParts im sheet u w old new
     going-more {u} z g = record { go = λ s h t. more-go (evenFrom (u .at)) s h z (g .go s h t) }
 
     pub going-last :
-        {u : Stage} {old : List ℕ} → lastBit im p ≡ 1 → Going sheet u v old mid →
+        {u : Stage} {old : List ℕ} → lastBit im p ≡ 1 → AmongParts im sheet u v old mid →
         Reaches sheet (onComponents im sheet mostFields (componentsFrom im (length im + 1) (evenFrom (u .at)))) u w old new
     going-last {u} z g = record { reach = λ s h t. last-go (evenFrom (u .at)) s h z (g .go s h t) }

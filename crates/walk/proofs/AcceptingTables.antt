@@ -16,16 +16,13 @@ use Rattle.cmf.proofs.Agreement.{Agree, HeadReads}
 use Rattle.cmf.proofs.Agreeing.{agree}
 use Rattle.walk.specs.declared.stage.Stage.{Stage}
 use Rattle.walk.specs.Check.{State, onComponents, onHead, onTitle, onSubmenu, onBody, onLine, onLines, onTable, start, walked, prologCode, checked, refusalOf}
-use Rattle.walk.specs.Accept.{Placed, Covers, Stands, Reaches}
+use Rattle.walk.specs.Accept.{Placed, Covers, Stands, Reaches, headed, AmongLines}
 use Rattle.walk.proofs.Steps.{title-goes, head-goes}
 use Rattle.walk.proofs.Line.{last-marked, more-marked, submenu-marked, plain-marked}
 use Rattle.walk.proofs.Tables.{lines-last, lines-more}
 use Rattle.walk.proofs.Accepting.{stands-then, stands-at}
 
--- the stage behind a head, behind a title, and behind a submenu
-abbrev pub headed : Stage → ℕ → Stage
-headed w end = record { good = true; at = end; lines = w .lines + 1; fields = w .fields }
-
+-- the stage behind a title, and behind a submenu
 abbrev pub titled : Stage → ℕ → Stage
 titled w end = record { good = true; at = end; lines = w .lines; fields = w .fields }
 
@@ -102,28 +99,20 @@ module _ (im : List ℕ) (sheet : ℕ) where
   -- ---- the lines of a table: those that are left, done to a state that stands, are the whole
 
   module _ (below first : ℕ) where
-    abbrev lines : ℕ → ℕ → List ℕ → State → State
+    abbrev pub lines : ℕ → ℕ → List ℕ → State → State
     lines n before ps = onLines im sheet mostFields (onTable im sheet mostFields below) n before ps
 
-    pub record Gone (s : State) (n before p : ℕ) (v : Stage) (m : List ℕ) : Type 0 where
-      pub here : State
-      pub stands : Stands v m here
-      pub rest : lines 0 0 (linesFrom im 100 first) s ≡ lines n before (linesFrom im (100 - n) p) here
-
-    pub record Going (u : Stage) (old : List ℕ) (n before p : ℕ) (v : Stage) (new : List ℕ) : Type 0 where
-      pub go : (s : State) → sheet ≤ longestSheet → Stands u old s → Gone s n before p v new
-
-    pub going-start : (u : Stage) (m : List ℕ) → Going u m 0 0 first u m
+    pub going-start : (u : Stage) (m : List ℕ) → AmongLines im sheet below first u m 0 0 first u m
     going-start u m = record { go = λ s h t. record { here = s; stands = t; rest = refl } }
 
-    module _ {u : Stage} {old : List ℕ} {n before p : ℕ} {v w : Stage} {mid new : List ℕ} (few : n < mostLinesOfTable) (z : headAt im p .refusal ≡ 0) (c : Reaches sheet (line below n before p) v w mid new) (g : Going u old n before p v mid) where
+    module _ {u : Stage} {old : List ℕ} {n before p : ℕ} {v w : Stage} {mid new : List ℕ} (few : n < mostLinesOfTable) (z : headAt im p .refusal ≡ 0) (c : Reaches sheet (line below n before p) v w mid new) (g : AmongLines im sheet below first u old n before p v mid) where
       one-more : 100 - n ≡ suc (99 - n)
       one-more = omega arith
 
       rest-of : 100 - (n + 1) ≡ 99 - n
       rest-of = omega arith
 
-      pub going-more : isLast im p ≡ 0 → Going u old (n + 1) p (nextLine im p) w new
+      pub going-more : isLast im p ≡ 0 → AmongLines im sheet below first u old (n + 1) p (nextLine im p) w new
       unfolding onLines
       going-more b = record {
         go = λ s h t.

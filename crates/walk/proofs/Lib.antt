@@ -1,5 +1,6 @@
 pub mod Stood
 pub mod Takes
+pub mod Spots
 pub mod Steps
 pub mod Parts
 pub mod Line

@@ -5,8 +5,8 @@ use mathlib.Core.Bool.{Bool, true}
 use mathlib.Core.List.{List, [], _∷_, _++_}
 use native.Mathlib.Omega.{arith}
 use lib.ListN.{length, getD, set}
-use lib.Bits.{bitOr, or-step, or-shr}
-use lib.Pow.{shl-exact, shl-shr}
+use lib.Bits.{bitOr, or-step, or-shr, or-zero-r, or-block, and-mask, mask-lt}
+use lib.Pow.{shl-exact, shl-shr, split, ones-lt}
 use lib.Seq.{getD-set-same, getD-set-other}
 use borrow.Author.Tests.{leb-true, leb-false, eqb-true, eqb-false}
 use Rattle.laws.specs.Choice.{_=?_, _≤?_}
@@ -68,6 +68,27 @@ or-bit k a b = ap (λ (x : ℕ). x % 2) (or-shr a b k) ∙ or-odd (a / 2 ^ k) (b
 pub one-bit : (k : ℕ) → k < 64 → (1 * 2 ^ k) % 2 ^ 64 / 2 ^ k % 2 ≡ 1
 one-bit k h = rw (shl-exact {a = 1} 1 k 64 (omega arith) (omega arith), shl-shr 1 k) refl
 
+-- a number with nothing above so many bits
+pub low-bits : (x k : ℕ) → x / 2 ^ k ≡ 0 → x < 2 ^ k
+low-bits x k e =
+    let z : 0 * 2 ^ k ≡ 0 = omega arith in
+    omega (arith, rw (e, z) at (split x k), rw (and-mask x k) at (mask-lt x k))
+
+-- a word that has a bit stays as it is where the bit is put in
+has-lowest : (a : ℕ) → a % 2 ≡ 1 → bitOr a 1 ≡ a
+has-lowest a h = or-step a 1 ∙ rw (or-zero-r (a / 2), h) (omega arith)
+
+has-bit : (k w : ℕ) → w / 2 ^ k % 2 ≡ 1 → bitOr w (1 * 2 ^ k) ≡ w
+has-bit k w h =
+    let one : 1 * 2 ^ k ≡ 1 * 2 ^ k + 0 = omega arith in
+    ap (λ (x : ℕ). bitOr x (1 * 2 ^ k)) (sym (split w k))
+    ∙ ap (λ (y : ℕ). bitOr (w / 2 ^ k * 2 ^ k + w % 2 ^ k) y) one
+    ∙ or-block k (w / 2 ^ k) 1 (w % 2 ^ k) 0 (rw (and-mask w k) at (mask-lt w k)) (omega (arith, ones-lt k))
+    ∙ rw (has-lowest (w / 2 ^ k) h, or-zero-r (w % 2 ^ k)) (split w k)
+
+pub has-mark : (k w : ℕ) → k < 64 → w / 2 ^ k % 2 ≡ 1 → bitOr w ((1 * 2 ^ k) % 2 ^ 64) ≡ w
+has-mark k w h b = rw (shl-exact {a = 1} 1 k 64 (omega arith) (omega arith)) (has-bit k w b)
+
 -- ---- claiming byte by byte
 
 -- nothing is claimed yet
@@ -117,3 +138,12 @@ module _ (sheet : ℕ) (old new : List ℕ) (from i y : ℕ) (l : i / 64 < lengt
           by-test (i =? j)
           (λ e. rw (← eqb-true i j e) here)
           (λ e. let q = eqb-false i j e in stays j (c .marked j a (omega arith)))
+
+-- one byte by itself
+pub claimed-one :
+    (sheet : ℕ) (m : List ℕ) (i y : ℕ) → i / 64 < length m → y / 2 ^ (i % 64) % 2 ≡ 1 → i < sheet → (markAt m i ≡ 1 → ⊥) →
+    Claimed sheet m (set m (i / 64) (bitOr (getD m (i / 64) 0) y)) i 1
+claimed-one sheet m i y l b s z =
+    let none : i - i ≡ 0 = omega arith in
+    let one : (i + 1) - i ≡ 1 = omega arith in
+    rw one at (claimed-next sheet m m i i y l b (omega arith) s z (rw none (claimed-none sheet m i (omega arith))))

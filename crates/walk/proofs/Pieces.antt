@@ -1,9 +1,10 @@
 -- The usual pieces of an image, recognised by a few tests: constant strings, options, and the heads of later lines.
-use Prim.Native.Nat.{ℕ, suc, _+_, _-_, _*_, _/_, _%_, _≤_, _<_, max}
+use Prim.Native.Nat.{ℕ, suc, _+_, _-_, _*_, _/_, _%_, _^_, _≤_, _<_, max}
 use mathlib.Core.Path.{_≡_, refl, sym, _∙_}
 use mathlib.Core.Bool.{true}
 use mathlib.Core.List.{List, [], _∷_}
 use native.Mathlib.Omega.{arith}
+use native.Mathlib.Nat.{add-assoc}
 use lib.ListN.{length}
 use borrow.Author.Tests.{lt-ltb}
 use Rattle.laws.specs.Bytes.{byteAt, wordAt}
@@ -12,8 +13,9 @@ use Rattle.field.specs.Values.{numberOf, valueAt}
 use Rattle.field.specs.Settings.{settingsFit}
 use Rattle.field.specs.declared.kind.Kind.the-variants.{Option}
 use Rattle.cmf.specs.Limits.{prologBytes}
-use Rattle.cmf.specs.Layouts.{bit, Text, Texts, Component, optionAt}
+use Rattle.cmf.specs.Layouts.{bit, Text, Texts, Component, switchAt, optionAt}
 use Rattle.cmf.specs.Grammar.{Head, Password, Digits, isFirst, isLast, isDynamic, hasSubmenu, previousAt, passwordAt, submenuTable}
+use Rattle.field.proofs.Fitting.{four-bytes, switch-fits}
 use Rattle.cmf.proofs.Usual.{one-byte, option-good}
 use Rattle.walk.specs.Accept.{Linked}
 
@@ -49,7 +51,7 @@ module _ (im : List ℕ) where
   filling-start from end count = record { fill = λ _ _ l t. let z : max 0 l ≡ l = omega arith in let n : count - 0 ≡ count = omega arith in rw z (rw n at t) }
 
   pub filling-next :
-      (from end count at seen most next : ℕ) → end ≤ length im → next ≡ max most (byteAt im at) → Filling from end count at seen most →
+      (from end count at seen most next : ℕ) → end ≤ length im → next ≡ max (byteAt im at) most → Filling from end count at seen most →
       Filling from end count (at + 1 + byteAt im at) (seen + 1) next
   filling-next from end count at seen most next i e f = record {
     fill = λ a s l t.
@@ -78,6 +80,24 @@ module _ (im : List ℕ) where
   option-is at end t i d e ts =
       Component.option (omega arith) (record { inside = i; items = ts; counted = e })
       (record { good = option-fits (byteAt im (at + 7)) (byteAt im (at + 8)) (at + 9) d })
+
+  -- ---- a switch
+
+  -- a default below the power of two has no bit that the switch does not state
+  pub switch-good :
+      (at x : ℕ) → 1 ≤ byteAt im (at + 7) → byteAt im (at + 7) ≤ 32 → x ≡ wordAt im (at + 10) + 65536 * wordAt im (at + 12) → x < 2 ^ byteAt im (at + 7) →
+      settingsFit (switchAt im at .kind) (switchAt im at .default) ≡ true
+  unfolding profileOf wordAt
+  switch-good at x a b e h =
+      let n = simp add-assoc at (four-bytes (at + 10) im) in
+      let z = simp add-assoc at e in
+      let q : numberOf (valueAt (at + 10) 4 im) ≡ x = omega arith in
+      switch-fits (byteAt im (at + 7)) (valueAt (at + 10) 4 im) a b (rw q h)
+
+  pub switch-is :
+      (at end longest : ℕ) → byteAt im at % 32 ≡ 0x13 → at + 14 ≤ length im → settingsFit (switchAt im at .kind) (switchAt im at .default) ≡ true →
+      end ≡ at + byteAt im (at + 6) → Texts im (byteAt im (at + 7)) (at + 14) end longest → Component im at end (switchAt im at ∷ [])
+  switch-is at end longest t i g e ts = Component.switch (omega arith) (record { inside = i; longest = longest; texts = ts; counted = e }) (record { good = g })
 
   -- ---- the head of a later line that has no mark but that of the last
 

@@ -1,15 +1,19 @@
 -- What the quick walk knows where it has no doubt: how far the walk of the check would have come, with marks on the sheet's bytes in place of the fields.
-use Prim.Native.Nat.{ℕ, _+_, _/_, _%_, _^_, _≤_, _<_}
+use Prim.Native.Nat.{ℕ, _+_, _-_, _/_, _%_, _^_, _≤_, _<_}
 use mathlib.Core.Path.{_≡_}
+use mathlib.Core.Bool.{true, false}
 use mathlib.Core.List.{List, [], _∷_}
 use lib.ListN.{length, getD}
 use Rattle.laws.specs.Bytes.{wordAt}
 use Rattle.field.specs.Sheet.{sizeOf}
 use Rattle.field.specs.declared.record.Field.{Field}
-use Rattle.cmf.specs.Limits.{mostFields, mostLines, longestSheet}
+use Rattle.cmf.specs.Limits.{mostFields, mostLines, mostLinesOfTable, longestSheet}
+use Rattle.cmf.specs.Readers.{evenFrom}
+use Rattle.cmf.specs.Places.{linesFrom, componentsFrom}
 use Rattle.cmf.specs.Layouts.{Aligned, Component}
-use Rattle.cmf.specs.Grammar.{isFirst, previousAt, Head}
-use Rattle.walk.specs.Check.{State, state}
+use Rattle.cmf.specs.Grammar.{isFirst, isLast, hasSubmenu, previousAt, passwordAt, nextLine, Head}
+use Rattle.walk.specs.Check.{State, state, onComponents, onLine, onLines, onTable}
+use Rattle.walk.specs.declared.spot.Spot.{Spot}
 use Rattle.walk.specs.declared.stage.Stage.{Stage}
 use Rattle.walk.specs.declared.index.Entry.{Entry}
 
@@ -72,3 +76,66 @@ pub record Stands (w : Stage) (marks : List ℕ) (s : State) : Type 0 where
 -- a stretch of the check's walk, for a sheet of so many bytes, goes from one stage to another
 pub record Reaches (sheet : ℕ) (stretch : State → State) (v w : Stage) (old new : List ℕ) : Type 0 where
   pub reach : (s : State) → sheet ≤ longestSheet → Stands v old s → Stands w new (stretch s)
+
+-- the stage behind a head that ends at a place
+abbrev pub headed : Stage → ℕ → Stage
+headed w end = record { good = true; at = end; lines = w .lines + 1; fields = w .fields }
+
+-- all components of a line, from the one at a place on, done to a state: they are those that are left, done to a state that has come as far as a stage
+pub record PartsLeft (im : List ℕ) (sheet first : ℕ) (s : State) (v : Stage) (m : List ℕ) : Type 0 where
+  pub here : State
+  pub fuel : ℕ
+  pub stands : Stands v m here
+  pub rest : onComponents im sheet mostFields (componentsFrom im (length im + 1) first) s ≡ onComponents im sheet mostFields (componentsFrom im fuel (evenFrom (v .at))) here
+  pub enough : length im < v .at + fuel
+
+pub record AmongParts (im : List ℕ) (sheet : ℕ) (u v : Stage) (old new : List ℕ) : Type 0 where
+  pub go : (s : State) → sheet ≤ longestSheet → Stands u old s → PartsLeft im sheet (evenFrom (u .at)) s v new
+
+-- the same of the lines of a table, of which n are done, the last of them at `before`, and the next one stands at p
+pub record LinesLeft (im : List ℕ) (sheet below first : ℕ) (s : State) (n before p : ℕ) (v : Stage) (m : List ℕ) : Type 0 where
+  pub here : State
+  pub stands : Stands v m here
+  pub rest :
+      onLines im sheet mostFields (onTable im sheet mostFields below) 0 0 (linesFrom im 100 first) s
+      ≡ onLines im sheet mostFields (onTable im sheet mostFields below) n before (linesFrom im (100 - n) p) here
+
+pub record AmongLines (im : List ℕ) (sheet below first : ℕ) (u : Stage) (old : List ℕ) (n before p : ℕ) (v : Stage) (new : List ℕ) : Type 0 where
+  pub go : (s : State) → sheet ≤ longestSheet → Stands u old s → LinesLeft im sheet below first s n before p v new
+
+-- a spot in a table whose walk began at a stage: the lines before its own are done, its own has a head that the grammar has, and its components are done up to the spot's stage, or all
+pub record Along (im : List ℕ) (sheet below first : ℕ) (u : Stage) (old : List ℕ) (s : Spot) (new : List ℕ) : Type 0 where
+  pub before : ℕ
+  pub end : ℕ
+  pub from : Stage
+  pub then : List ℕ
+  pub few : s .n < mostLinesOfTable
+  pub lines : AmongLines im sheet below first u old (s .n) before (s .line) from then
+  pub head : Placed im (s .n) before (s .line) from end
+  pub within : s .done ≡ false → AmongParts im sheet (headed from end) (s .stage) then new
+  pub through : s .done ≡ true → Reaches sheet (onComponents im sheet mostFields (componentsFrom im (length im + 1) (evenFrom end))) (headed from end) (s .stage) then new
+
+-- from one spot to another, in whatever table they are
+pub record Moves (im : List ℕ) (sheet : ℕ) (s r : Spot) (old new : List ℕ) : Type 0 where
+  pub inside : passwordAt im (r .line) ≤ length im
+  pub counted : s .n ≤ r .n
+  pub onward : s .stage .at ≤ r .stage .at
+  pub fits : r .stage .at ≤ length im
+  pub carry : (below first : ℕ) (u : Stage) (began : List ℕ) → Along im sheet below first u began s old → Along im sheet below first u began r new
+
+-- a line with a plain head behind the line at a place, which has neither a submenu nor the mark of the last
+pub record Next (im : List ℕ) (n line : ℕ) (w : Stage) (s : Spot) : Type 0 where
+  pub more : isLast im line ≡ 0
+  pub plain : hasSubmenu im line ≡ 0
+  pub counted : s .n ≡ n + 1
+  pub few : s .n < mostLinesOfTable
+  pub there : s .line ≡ nextLine im line
+  pub head : Placed im (s .n) line (s .line) w (s .stage .at)
+  pub stage : s .stage ≡ headed w (s .stage .at)
+
+-- with the submenu of a line, if it has one, the whole line is done
+pub record Leaves (im : List ℕ) (sheet below line : ℕ) (w r : Stage) (mid new : List ℕ) : Type 0 where
+  pub leave :
+      {n before end : ℕ} {from : Stage} {old : List ℕ} → n < mostLinesOfTable → Placed im n before line from end →
+      Reaches sheet (onComponents im sheet mostFields (componentsFrom im (length im + 1) (evenFrom end))) (headed from end) w old mid →
+      Reaches sheet (onLine im sheet mostFields (onTable im sheet mostFields below) n before line) from r old new

@@ -1,62 +1,100 @@
 // The check of an image without fault, in one quick walk: where anything gives it doubt, the check proper is asked for the refusal.
 ghost use mathlib.Core.Path.{_≡_};
-ghost use mathlib.Core.Bool.{true};
-ghost use Prim.Native.Nat.{_<_, _≤_};
+ghost use mathlib.Core.Bool.{true, false};
+ghost use Prim.Native.Nat.{_*_, _<_, _≤_};
 ghost use lib.ListN.{length};
-ghost use Rattle.cmf.specs.Limits.{mostFields, mostLinesOfTable};
-ghost use Rattle.cmf.specs.Readers.{headAt};
+ghost use Rattle.cmf.specs.Limits.{mostFields};
 ghost use Rattle.cmf.specs.Grammar.{passwordAt};
-ghost use Rattle.walk.specs.Check.{onLine, onTable, refusalOf};
-ghost use Rattle.walk.specs.Accept.{Reaches};
+ghost use Rattle.walk.specs.Check.{onTable, refusalOf};
+ghost use Rattle.walk.specs.Accept.{Reaches, Moves, Leaves};
 use crate::check::check;
 use crate::check::prolog_code;
 use crate::claim::WORDS;
-use crate::components::accept_components;
+use crate::components::accept_component;
 use crate::heads::accept_head;
+use crate::heads::next_of;
 use crate::heads::submenu_of;
-use crate::heads::word_in;
+use crate::run::run;
+use crate::spot::Spot;
 use crate::stage::Stage;
 use cmf::image::Image;
 use cmf::title::read_title;
 
-// A line at p, with n lines of its table before it; `below` levels are left for its submenu.
-fn accept_line(
+// A spot that gives doubt.
+fn doubtful(s: Spot) -> Spot
+    ensures { λ r. ⌜ r .stage .good ≡ false ⌝ }
+{
+    Spot {
+        stage: Stage::doubt(),
+        n: s.n,
+        line: s.line,
+        done: true,
+    }
+}
+
+// One component more, of any kind.
+fn take_other(image: &[u8], sheet: usize, s: Spot, marks: &mut [u64]) -> Spot
+    requires { ⌜ (s .done ≡ false) × (passwordAt (now image) (s .line) ≤ length (now image)) × (s .stage .at ≤ length (now image)) × (sheet ≤ 64 * length (now marks)) ⌝ }
+    ensures { λ r. ⌜ (r .stage .good ≡ true → Moves (now (image .entry)) sheet s r (now (marks .entry)) (now (marks .exit)) × (s .stage .at < r .stage .at)) ⌝ }
+{
+    let at = s.stage.at;
+    let p = at + at % 2;
+    if image.len() <= p {
+        return doubtful(s);
+    }
+    let w = accept_component(image, sheet, p, s.stage, &mut *marks);
+    Spot {
+        stage: w,
+        n: s.n,
+        line: s.line,
+        done: image[p] / 128 % 2 == 1,
+    }
+}
+
+// From a spot within a line to the end of a line whose next one is not plain.
+fn pass_lines(image: &[u8], sheet: usize, start: Spot, marks: &mut [u64]) -> Spot
+    requires { ⌜ (start .done ≡ false) × (passwordAt (now image) (start .line) ≤ length (now image)) × (start .stage .at ≤ length (now image)) × (sheet ≤ 64 * length (now marks)) ⌝ }
+    ensures { λ r. ⌜ (r .stage .good ≡ true → (r .done ≡ true) × Moves (now (image .entry)) sheet start r (now (marks .entry)) (now (marks .exit))) ⌝ }
+{
+    let mut s = start;
+    while s.stage.at < image.len() {
+        let usual = run(image, sheet, s, &mut *marks);
+        if usual.done {
+            return usual;
+        }
+        s = take_other(image, sheet, usual, &mut *marks);
+        if !s.stage.good {
+            return s;
+        }
+        if s.done {
+            return s;
+        }
+    }
+    doubtful(s)
+}
+
+// Behind a line's components, which end where the walk stands: its submenu, if it has one; `below` levels are left for it.
+fn accept_submenu(
     image: &[u8],
     sheet: usize,
     below: usize,
-    n: usize,
-    before: usize,
-    p: usize,
+    line: usize,
     w: Stage,
     marks: &mut [u64],
 ) -> Stage
-    requires { ⌜ (n < mostLinesOfTable) × (before ≤ p) ⌝ }
-    ensures { λ r. ⌜ (r .good ≡ true → (headAt (now (image .entry)) p .refusal ≡ 0) × (passwordAt (now (image .entry)) p ≤ length (now (image .entry))) × Reaches sheet (onLine (now (image .entry)) sheet mostFields (onTable (now (image .entry)) sheet mostFields below) n before p) w r (now (marks .entry)) (now (marks .exit))) ⌝ }
+    requires { ⌜ (passwordAt (now image) line ≤ length (now image)) × (sheet ≤ 64 * length (now marks)) ⌝ }
+    ensures { λ r. ⌜ (r .good ≡ true → Leaves (now (image .entry)) sheet below line w r (now (marks .entry)) (now (marks .exit))) ⌝ }
 {
-    let end = accept_head(image, n, before, p, w);
-    if end == 0 {
-        return Stage::doubt();
-    }
-    let head = Stage {
-        good: true,
-        at: end,
-        lines: w.lines + 1,
-        fields: w.fields,
-    };
-    let body = accept_components(image, sheet, head, &mut *marks);
-    if !body.good {
-        return body;
-    }
-    if image[p] / 8 % 2 == 1 {
-        let t = accept_table(image, sheet, below, submenu_of(image, p), body, &mut *marks);
+    if image[line] / 8 % 2 == 1 {
+        let t = accept_table(image, sheet, below, submenu_of(image, line), w, &mut *marks);
         return Stage {
             good: t.good,
-            at: body.at,
+            at: w.at,
             lines: t.lines,
             fields: t.fields,
         };
     }
-    body
+    w
 }
 
 // The table at a place; `left` levels are left, its own among them.
@@ -68,6 +106,7 @@ fn accept_table(
     w: Stage,
     marks: &mut [u64],
 ) -> Stage
+    requires { ⌜ sheet ≤ 64 * length (now marks) ⌝ }
     ensures { λ r. ⌜ (r .good ≡ true → Reaches sheet (onTable (now (image .entry)) sheet mostFields left table) w r (now (marks .entry)) (now (marks .exit))) ⌝ }
 {
     let title = read_title(image, table);
@@ -88,16 +127,36 @@ fn accept_table(
     let mut before = 0;
     let mut p = title.line;
     while n < Image::MAX_TABLE_LINES {
-        v = accept_line(image, sheet, below, n, before, p, v, &mut *marks);
+        let end = accept_head(image, n, before, p, v);
+        if end == 0 {
+            return Stage::doubt();
+        }
+        let head = Spot {
+            stage: Stage {
+                good: true,
+                at: end,
+                lines: v.lines + 1,
+                fields: v.fields,
+            },
+            n,
+            line: p,
+            done: false,
+        };
+        let s = pass_lines(image, sheet, head, &mut *marks);
+        if !s.stage.good {
+            return s.stage;
+        }
+        let line = s.line;
+        v = accept_submenu(image, sheet, below, line, s.stage, &mut *marks);
         if !v.good {
             return v;
         }
-        if image[p] / 2 % 2 == 1 {
+        if image[line] / 2 % 2 == 1 {
             return v;
         }
-        before = p;
-        p = p + word_in(image, p + 1);
-        n = n + 1;
+        before = line;
+        p = next_of(image, line);
+        n = s.n + 1;
     }
     Stage::doubt()
 }

@@ -1,6 +1,8 @@
 // Marks on the bytes of the sheet that fields hold: they stand in for the list of fields.
 ghost use mathlib.Core.Path.{_≡_};
-ghost use mathlib.Core.Bool.{true};
+ghost use mathlib.Core.Bool.{true, false};
+ghost use Prim.Native.Nat.{_*_, _≤_};
+ghost use lib.ListN.{length};
 ghost use Rattle.walk.specs.Accept.{Claimed};
 use cmf::image::Image;
 
@@ -9,6 +11,7 @@ pub(crate) const WORDS: usize = Image::MAX_SHEET / 64 + 1;
 
 // Marks bytes of the sheet; not if one of them is marked or is not there.
 pub(crate) fn claim(marks: &mut [u64], sheet: usize, from: usize, size: usize) -> bool
+    requires { ⌜ sheet ≤ 64 * length (now marks) ⌝ }
     ensures { λ r. ⌜ (r ≡ true → Claimed sheet (now (marks .entry)) (now (marks .exit)) from size) ⌝ }
 {
     if sheet < from {
@@ -18,9 +21,6 @@ pub(crate) fn claim(marks: &mut [u64], sheet: usize, from: usize, size: usize) -
         return false;
     }
     let end = from + size;
-    if marks.len() <= end / 64 {
-        return false;
-    }
     let mut i = from;
     while i < end {
         let word = marks[i / 64];
@@ -30,5 +30,22 @@ pub(crate) fn claim(marks: &mut [u64], sheet: usize, from: usize, size: usize) -
         marks[i / 64] = word | (1 << (i % 64));
         i = i + 1;
     }
+    true
+}
+
+// Marks one byte of the sheet; not if it is marked or is not there, and then the marks stay as they are.
+pub(crate) fn claim_byte(marks: &mut [u64], sheet: usize, at: usize) -> bool
+    requires { ⌜ sheet ≤ 64 * length (now marks) ⌝ }
+    ensures { λ r. ⌜ (r ≡ true → Claimed sheet (now (marks .entry)) (now (marks .exit)) at 1) × (r ≡ false → now (marks .exit) ≡ now (marks .entry)) ⌝ }
+{
+    if sheet <= at {
+        return false;
+    }
+    let word = marks[at / 64];
+    let more = word | (1 << (at % 64));
+    if more == word {
+        return false;
+    }
+    marks[at / 64] = more;
     true
 }

@@ -1,8 +1,8 @@
-// Fields without texts in the quick walk: integers, counters, times, dates and triggers, each told by a few tests on its bytes.
+// Fields of the quick walk, but options: integers, counters, times, dates and triggers, which have no texts, are told here by a few tests on their bytes.
 ghost use mathlib.Core.Path.{_≡_};
 ghost use mathlib.Core.Bool.{true};
 ghost use mathlib.Core.List.{[], _∷_};
-ghost use Prim.Native.Nat.{_+_, _%_, _<_, _≤_};
+ghost use Prim.Native.Nat.{_+_, _*_, _%_, _<_, _≤_};
 ghost use lib.ListN.{length};
 ghost use Rattle.laws.specs.Bytes.{byteAt, wordAt};
 ghost use Rattle.field.specs.Formats.{formatOf, limitOf, numeralOf};
@@ -13,6 +13,7 @@ ghost use Rattle.cmf.specs.Limits.{mostFields};
 ghost use Rattle.cmf.specs.Layouts.{Component, integerAt, counterSettingsAt, counterAt, timeLongAt, timeShortAt, dateLongAt, dateShortAt, triggerAt};
 ghost use Rattle.walk.specs.Accept.{Held, Passes};
 use crate::claim::claim;
+use crate::components::switch_end;
 use crate::heads::word_in;
 use crate::stage::Stage;
 use field::settings::counted_cells;
@@ -245,7 +246,7 @@ struct Extent {
     size: usize,
 }
 
-// A field without texts that has bytes in the sheet.
+// A field, no option, that has bytes in the sheet.
 fn extent_of(image: &[u8], at: usize) -> Extent
     requires { ⌜ at < length (now image) ⌝ }
     ensures { λ r. ⌜ (0 < r .end → (at + 6 ≤ length (now (image .entry))) × Held (now (image .entry)) at (r .end) (r .size)) ⌝ }
@@ -284,6 +285,10 @@ fn extent_of(image: &[u8], at: usize) -> Extent
             end: date_short_end(image, at),
             size: 3,
         },
+        0x13 => Extent {
+            end: switch_end(image, at),
+            size: 4,
+        },
         _ => Extent { end: 0, size: 0 },
     }
 }
@@ -300,15 +305,15 @@ fn trigger_end(image: &[u8], at: usize) -> usize
     end
 }
 
-// A field without texts. A trigger has no bytes in the sheet to claim.
-pub(crate) fn accept_fixed(
+// A field, no option. A trigger has no bytes in the sheet to claim.
+pub(crate) fn accept_known(
     image: &[u8],
     sheet: usize,
     p: usize,
     w: Stage,
     marks: &mut [u64],
 ) -> Stage
-    requires { ⌜ (p < length (now image)) × (w .fields < mostFields) ⌝ }
+    requires { ⌜ (p < length (now image)) × (w .fields < mostFields) × (sheet ≤ 64 * length (now marks)) ⌝ }
     ensures { λ r. ⌜ (r .good ≡ true → Passes (now (image .entry)) sheet p w r (now (marks .entry)) (now (marks .exit))) ⌝ }
 {
     if image[p] % 32 == 0x17 {

@@ -4,8 +4,8 @@ ghost use mathlib.Core.Bool.{true};
 ghost use Prim.Native.Nat.{ℕ, _+_, _%_, _<_, _≤_};
 ghost use lib.ListN.{length};
 ghost use Rattle.laws.specs.Bytes.{byteAt, wordAt};
-ghost use Rattle.cmf.specs.Layouts.{Text};
-ghost use Rattle.cmf.specs.Grammar.{Digits, Head, passwordAt, hasSubmenu, submenuTable};
+ghost use Rattle.cmf.specs.Layouts.{Aligned, Text};
+ghost use Rattle.cmf.specs.Grammar.{Digits, Head, isLast, passwordAt, hasSubmenu, nextLine, submenuTable};
 ghost use Rattle.walk.specs.Accept.{Linked, Placed};
 use crate::check::is_padded;
 use crate::stage::Stage;
@@ -31,6 +31,43 @@ fn plain_end(image: &[u8], before: usize, p: usize) -> usize
     }
     if word_in(image, end - 2) == p - before {
         return end;
+    }
+    0
+}
+
+// Whether a place is the first odd one from `at` on, which follows at once or behind a zero byte.
+fn is_odd_from(image: &[u8], at: usize, place: usize) -> bool
+    requires { ⌜ place < length (now image) ⌝ }
+    ensures { λ r. ⌜ (r ≡ true → Aligned (now (image .entry)) 1 at place) ⌝ }
+{
+    if at % 2 == 1 {
+        return place == at;
+    }
+    if at < place {
+        if place - at == 1 {
+            return image[at] == 0;
+        }
+    }
+    false
+}
+
+// Where the head of a later line at p ends, if it is a plain one that stands behind `at`; 0 in doubt.
+pub(crate) fn usual_end(image: &[u8], before: usize, p: usize, at: usize) -> usize
+    requires { ⌜ before ≤ p ⌝ }
+    ensures { λ r. ⌜ (0 < r → (p < length (now (image .entry))) × (Aligned (now (image .entry)) 1 at p × ((n : ℕ) → 0 < n → Head (now (image .entry)) n before p r))) ⌝ }
+{
+    if image.len() <= p {
+        return 0;
+    }
+    let placed = is_odd_from(image, at, p);
+    if !placed {
+        return 0;
+    }
+    if 2 < image[p] {
+        return 0;
+    }
+    if image[p] % 2 == 0 {
+        return plain_end(image, before, p);
     }
     0
 }
@@ -149,4 +186,12 @@ pub(crate) fn submenu_of(image: &[u8], p: usize) -> usize
     let tag = image[p] as usize;
     let at = p + 1 + 2 * (1 - tag / 2 % 2) + 2 * (1 - tag % 2) + 2 * (tag / 4 % 2);
     Image::PROLOG + word_in(image, at)
+}
+
+// The place of the line behind the one at p, which is not the last.
+pub(crate) fn next_of(image: &[u8], p: usize) -> usize
+    requires { ⌜ (passwordAt (now image) p ≤ length (now image)) × (isLast (now image) p ≡ 0) ⌝ }
+    ensures { λ r. ⌜ (r ≡ nextLine (now (image .entry)) p) × (p ≤ r) ⌝ }
+{
+    p + word_in(image, p + 1)
 }

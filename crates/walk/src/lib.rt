@@ -6,5 +6,7 @@ mod components;
 mod fixed;
 mod heads;
 pub mod index;
+mod run;
+pub mod spot;
 pub mod stage;
 pub mod state;

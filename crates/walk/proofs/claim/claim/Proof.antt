@@ -24,26 +24,23 @@ returns-2 c = λ e. absurd (false≢true e)
 add-end : tie.Need-add-end Inv-loop μ-loop
 add-end c = omega arith
 
-returns-3 : tie.Need-returns-3 Inv-loop μ-loop
-returns-3 c = λ e. absurd (false≢true e)
-
 loop-holds : tie.Need-loop-holds Inv-loop μ-loop
-loop-holds c = let z : c .before .before .before .args .from - c .before .before .before .args .from ≡ 0 = omega arith in (((rw z (claimed-none _ _ _ (omega arith)), omega arith), omega arith), refl)
+loop-holds c = let z : c .before .before .args .from - c .before .before .args .from ≡ 0 = omega arith in (((rw z (claimed-none _ _ _ (omega arith)), omega arith), omega arith), refl)
 
 mul-word : tie.Need-mul-word Inv-loop μ-loop
 mul-word c = omega arith
 
 slice-read-word : tie.Need-slice-read-word Inv-loop μ-loop
-slice-read-word c = omega (arith, c .before .before .loop .inv .1)
+slice-read-word c = omega (arith, c .before .before .loop .inv .1, c .before .before .before .before .before .pre)
 
-shr-if4 : tie.Need-shr-if4 Inv-loop μ-loop
-shr-if4 c = omega arith
+shr-if3 : tie.Need-shr-if3 Inv-loop μ-loop
+shr-if3 c = omega arith
 
 same-length : tie.Need-same-length Inv-loop μ-loop
 same-length c = c .before .before .before .loop .inv .1
 
-returns-4 : tie.Need-returns-4 Inv-loop μ-loop
-returns-4 c = λ e. absurd (false≢true e)
+returns-3 : tie.Need-returns-3 Inv-loop μ-loop
+returns-3 c = λ e. absurd (false≢true e)
 
 shl-marks : tie.Need-shl-marks Inv-loop μ-loop
 shl-marks c = omega arith
@@ -52,7 +49,7 @@ mul-marks : tie.Need-mul-marks Inv-loop μ-loop
 mul-marks c = omega arith
 
 slice-write-marks : tie.Need-slice-write-marks Inv-loop μ-loop
-slice-write-marks c = omega (arith, c .before .before .before .loop .inv .1)
+slice-write-marks c = omega (arith, c .before .before .before .loop .inv .1, c .before .before .before .before .before .before .pre)
 
 add-i : tie.Need-add-i Inv-loop μ-loop
 add-i c = omega arith
@@ -62,13 +59,13 @@ loop-less c = omega arith
 
 loop-again : tie.Need-loop-again Inv-loop μ-loop
 unfolding markAt
-loop-again c = (((claimed-next _ _ _ _ _ _ (omega (arith, c .before .before .before .loop .inv .1)) (one-bit _ (omega arith)) (c .before .before .before .loop .inv .0 .0 .1) (omega arith) (c .if4 .left) (c .before .before .before .loop .inv .0 .0 .0), omega arith), omega arith), length-set (c .before .before .before .loop .marks) _ _ ∙ c .before .before .before .loop .inv .1)
+loop-again c = (((claimed-next _ _ _ _ _ _ (omega (arith, c .before .before .before .loop .inv .1, c .before .before .before .before .before .before .pre)) (one-bit _ (omega arith)) (c .before .before .before .loop .inv .0 .0 .1) (omega arith) (c .if3 .left) (c .before .before .before .loop .inv .0 .0 .0), omega arith), omega arith), length-set (c .before .before .before .loop .marks) _ _ ∙ c .before .before .before .loop .inv .1)
 
 same-length-2 : tie.Need-same-length-2 Inv-loop μ-loop
 same-length-2 c = c .before .loop .inv .1
 
-returns-5 : tie.Need-returns-5 Inv-loop μ-loop
-returns-5 c = λ _. let z : c .before .loop .i - c .before .before .before .before .before .args .from ≡ c .before .before .before .before .before .args .size = omega arith in rw z at (c .before .loop .inv .0 .0 .0)
+returns-4 : tie.Need-returns-4 Inv-loop μ-loop
+returns-4 c = λ _. let z : c .before .loop .i - c .before .before .before .before .args .from ≡ c .before .before .before .before .args .size = omega arith in rw z at (c .before .loop .inv .0 .0 .0)
 
 pub claim-spec : {M : Type 1} → statement M
 claim-spec =
@@ -79,13 +76,12 @@ claim-spec =
     returns
     returns-2
     add-end
-    returns-3
     loop-holds
     mul-word
     slice-read-word
-    shr-if4
+    shr-if3
     same-length
-    returns-4
+    returns-3
     shl-marks
     mul-marks
     slice-write-marks
@@ -93,4 +89,4 @@ claim-spec =
     loop-less
     loop-again
     same-length-2
-    returns-5)
+    returns-4)

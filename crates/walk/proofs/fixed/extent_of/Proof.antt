@@ -42,6 +42,9 @@ date-long-end-requires c κs = search needs
 date-short-end-requires : tie.Need-date-short-end-requires
 date-short-end-requires c κs = search needs
 
+switch-end-requires : tie.Need-switch-end-requires
+switch-end-requires c κs = search needs
+
 returns-3 : tie.Need-returns-3
 unfolding profileOf if_then_else_
 returns-3 c = λ e. held _ (c .counter-end .ensures e) refl refl
@@ -63,7 +66,11 @@ unfolding profileOf if_then_else_
 returns-7 c = λ e. held _ (c .date-short-end .ensures e) refl refl
 
 returns-8 : tie.Need-returns-8
-returns-8 c = λ e. absurd (omega arith)
+unfolding profileOf if_then_else_
+returns-8 c = λ e. held _ (c .switch-end .ensures e) refl refl
+
+returns-9 : tie.Need-returns-9
+returns-9 c = λ e. absurd (omega arith)
 
 pub extent-of-spec : {M : Type 1} → statement M
 extent-of-spec =
@@ -80,9 +87,11 @@ extent-of-spec =
     time-short-end-requires
     date-long-end-requires
     date-short-end-requires
+    switch-end-requires
     returns-3
     returns-4
     returns-5
     returns-6
     returns-7
-    returns-8)
+    returns-8
+    returns-9)

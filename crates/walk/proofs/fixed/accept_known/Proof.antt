@@ -4,8 +4,8 @@ use Rattle.walk.proofs.FixedFields.{trigger-passes, fixed-passes}
 use Rattle.walk.proofs.Stood.{clash}
 use native.Mathlib.Omega.{arith}
 use borrow.Author.Needs.{needs}
-use Rattle.walk.proofs.fixed.accept_fixed.Statement.{statement}
-use Rattle.walk.proofs.fixed.accept_fixed.Tie as tie
+use Rattle.walk.proofs.fixed.accept_known.Statement.{statement}
+use Rattle.walk.proofs.fixed.accept_known.Tie as tie
 
 shared-slice-read-if1 : tie.Need-shared-slice-read-if1
 shared-slice-read-if1 c = search needs
@@ -46,8 +46,8 @@ same-length c = search needs
 returns-3 : tie.Need-returns-3
 returns-3 c = λ e. fixed-passes _ _ (c .before .before .before .before .before .before .before .before .before .before .before .before .before .pre .1) (c .before .before .before .before .before .before .before .before .extent-of .ensures (omega arith) .1) (c .before .before .before .before .word-in .ensures .0) (c .before .before .before .claim .ensures e)
 
-pub accept-fixed-spec : {M : Type 1} → statement M
-accept-fixed-spec =
+pub accept-known-spec : {M : Type 1} → statement M
+accept-known-spec =
     tie.close
     (tie.spec
     shared-slice-read-if1
