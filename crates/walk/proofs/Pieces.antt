@@ -47,7 +47,7 @@ module _ (im : List ℕ) where
   pub record Filling (from end count at seen most : ℕ) : Type 0 where
     pub fill : at ≤ end → seen ≤ count → (longest : ℕ) → Texts im (count - seen) at end longest → Texts im count from end (max most longest)
 
-  pub filling-start : (from end count : ℕ) → Filling from end count from 0 0
+  filling-start : (from end count : ℕ) → Filling from end count from 0 0
   filling-start from end count = record { fill = λ _ _ l t. let z : max 0 l ≡ l = omega arith in let n : count - 0 ≡ count = omega arith in rw z (rw n at t) }
 
   pub filling-next :
@@ -60,6 +60,10 @@ module _ (im : List ℕ) where
         rw m (f .fill (omega arith) (omega arith) (max (byteAt im at) l)
         (rw z (Texts.more (at + 1 + byteAt im at) (record { ends = refl; inside = omega arith }) t)));
   }
+
+  -- the first of them
+  pub filling-first : (from end count : ℕ) → end ≤ length im → Filling from end count (from + 1 + byteAt im from) 1 (byteAt im from)
+  filling-first from end count i = filling-next from end count from 0 0 (byteAt im from) i (omega arith) (filling-start from end count)
 
   pub filled : (from end count at seen most longest : ℕ) → at ≡ end → seen ≡ count → most ≡ longest → Filling from end count at seen most → Texts im count from end longest
   filled from end count at seen most longest a z m f =

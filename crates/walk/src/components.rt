@@ -37,17 +37,15 @@ fn longer(a: usize, b: usize) -> usize
     if a < b { b } else { a }
 }
 
-// One more than the length of the longest of so many texts that fill the bytes from one place up to another; 0 in doubt.
+// One more than the length of the longest of so many texts, one at least, that fill the bytes from one place up to another; 0 in doubt.
 fn longest_of(image: &[u8], from: usize, end: usize, count: u8) -> usize
-    requires { ⌜ end ≤ length (now image) ⌝ }
+    requires { ⌜ (from < length (now image)) × (end ≤ length (now image)) ⌝ }
     ensures { λ r. ⌜ (0 < r → Texts (now (image .entry)) count from end (r - 1)) ⌝ }
 {
-    if end <= from {
-        return 0;
-    }
-    let mut at = from;
-    let mut seen = 0;
-    let mut most = 0;
+    let first = image[from] as usize;
+    let mut at = from + 1 + first;
+    let mut seen = 1;
+    let mut most = first;
     while at < end {
         let n = image[at] as usize;
         at = at + 1 + n;
@@ -65,7 +63,7 @@ fn longest_of(image: &[u8], from: usize, end: usize, count: u8) -> usize
 
 // Where the option at a place ends; 0 in doubt.
 pub(crate) fn option_end(image: &[u8], at: usize) -> usize
-    requires { ⌜ (at + 10 ≤ length (now image)) × (byteAt (now image) at % 32 ≡ 0x14) ⌝ }
+    requires { ⌜ (at + 10 < length (now image)) × (byteAt (now image) at % 32 ≡ 0x14) ⌝ }
     ensures { λ r. ⌜ (0 < r → Component (now (image .entry)) at r (optionAt (now (image .entry)) at ∷ [])) ⌝ }
 {
     let items = image[at + 7];
@@ -114,7 +112,7 @@ pub(crate) fn switch_end(image: &[u8], at: usize) -> usize
     requires { ⌜ (at < length (now image)) × (byteAt (now image) at % 32 ≡ 0x13) ⌝ }
     ensures { λ r. ⌜ (0 < r → (at + 6 ≤ length (now (image .entry))) × Component (now (image .entry)) at r (switchAt (now (image .entry)) at ∷ [])) ⌝ }
 {
-    if image.len() < at + 14 {
+    if image.len() <= at + 14 {
         return 0;
     }
     let end = at + image[at + 6] as usize;

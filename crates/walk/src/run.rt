@@ -18,7 +18,7 @@ use crate::stage::Stage;
 use cmf::image::Image;
 
 fn take_option(image: &[u8], sheet: usize, p: usize, w: Stage, marks: &mut [u64]) -> Stage
-    requires { ⌜ (p + 10 ≤ length (now image)) × (byteAt (now image) p % 32 ≡ 0x14) × (sheet ≤ 64 * length (now marks)) ⌝ }
+    requires { ⌜ (p + 10 < length (now image)) × (byteAt (now image) p % 32 ≡ 0x14) × (sheet ≤ 64 * length (now marks)) ⌝ }
     ensures { λ r. ⌜ (r .good ≡ true → Passes (now (image .entry)) sheet p w r (now (marks .entry)) (now (marks .exit))) × (r .good ≡ false → now (marks .exit) ≡ now (marks .entry)) ⌝ }
 {
     if Image::MAX_FIELDS <= w.fields {

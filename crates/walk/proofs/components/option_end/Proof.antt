@@ -57,7 +57,7 @@ add-if3-2 : tie.Need-add-if3-2
 add-if3-2 c = omega (arith, c .shared-slice-known5 .given (c .before .before .before .before .before .before .before .before .args .at + 8))
 
 returns-3 : tie.Need-returns-3
-returns-3 c = λ _. let l : c .before .before .longest-of .result - 1 ≡ byteAt (c .before .before .before .before .before .before .before .before .before .args .image .now) (c .before .before .before .before .before .before .before .before .before .args .at + 8) = omega arith in option-is _ _ _ (c .before .before .before .before .before .before .before .before .before .pre .1) (c .before .before .before .before .before .before .before .before .before .pre .0) (omega arith) refl (rw l at (c .before .before .longest-of .ensures (omega arith)))
+returns-3 c = λ _. let l : c .before .before .longest-of .result - 1 ≡ byteAt (c .before .before .before .before .before .before .before .before .before .args .image .now) (c .before .before .before .before .before .before .before .before .before .args .at + 8) = omega arith in option-is (c .before .before .before .before .before .before .before .before .before .args .image .now) (c .before .before .before .before .before .before .before .before .before .args .at) _ (c .before .before .before .before .before .before .before .before .before .pre .1) (omega (arith, c .before .before .before .before .before .before .before .before .before .pre .0)) (omega arith) refl (rw l at (c .before .before .longest-of .ensures (omega arith)))
 
 returns-4 : tie.Need-returns-4
 returns-4 c = λ e. absurd (omega arith)
