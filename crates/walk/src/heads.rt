@@ -20,21 +20,6 @@ pub(crate) fn word_in(image: &[u8], at: usize) -> usize
     image[at] as usize + 256 * (image[at + 1] as usize)
 }
 
-// Where the head of a later line ends that has no mark but that of the last; 0 in doubt.
-fn plain_end(image: &[u8], before: usize, p: usize) -> usize
-    requires { ⌜ (p < length (now image)) × ((before ≤ p) × ((byteAt (now image) p ≤ 2) × (byteAt (now image) p % 2 ≡ 0))) ⌝ }
-    ensures { λ r. ⌜ (0 < r → (n : ℕ) → 0 < n → Head (now (image .entry)) n before p r) ⌝ }
-{
-    let end = p + 5 - image[p] as usize;
-    if image.len() < end {
-        return 0;
-    }
-    if word_in(image, end - 2) == p - before {
-        return end;
-    }
-    0
-}
-
 // Whether a place is the first odd one from `at` on, which follows at once or behind a zero byte.
 fn is_odd_from(image: &[u8], at: usize, place: usize) -> bool
     requires { ⌜ place < length (now image) ⌝ }
@@ -51,23 +36,28 @@ fn is_odd_from(image: &[u8], at: usize, place: usize) -> bool
     false
 }
 
-// Where the head of a later line at p ends, if it is a plain one that stands behind `at`; 0 in doubt.
-pub(crate) fn usual_end(image: &[u8], before: usize, p: usize, at: usize) -> usize
-    requires { ⌜ before ≤ p ⌝ }
+// Where the head of a later line at p ends, if it stands behind `at` and has no mark but that of the last; 0 in doubt. Five bytes are asked for, which is the most that it may have.
+pub(crate) fn plain_end(image: &[u8], before: usize, p: usize, at: usize) -> usize
+    requires { ⌜ (before < length (now image)) × (before ≤ p) × (p < before + 65536) ⌝ }
     ensures { λ r. ⌜ (0 < r → (p < length (now (image .entry))) × (Aligned (now (image .entry)) 1 at p × ((n : ℕ) → 0 < n → Head (now (image .entry)) n before p r))) ⌝ }
 {
-    if image.len() <= p {
+    if image.len() < p + 5 {
         return 0;
     }
     let placed = is_odd_from(image, at, p);
     if !placed {
         return 0;
     }
-    if 2 < image[p] {
+    let tag = image[p];
+    if tag / 4 != 0 {
         return 0;
     }
-    if image[p] % 2 == 0 {
-        return plain_end(image, before, p);
+    if tag % 2 != 0 {
+        return 0;
+    }
+    let end = p + 5 - tag as usize;
+    if word_in(image, end - 2) == p - before {
+        return end;
     }
     0
 }
@@ -140,22 +130,6 @@ fn any_end(image: &[u8], n: usize, before: usize, p: usize) -> usize
     0
 }
 
-fn head_end(image: &[u8], n: usize, before: usize, p: usize) -> usize
-    requires { ⌜ (p < length (now image)) × (before ≤ p) ⌝ }
-    ensures { λ r. ⌜ (0 < r → Head (now (image .entry)) n before p r) ⌝ }
-{
-    if n == 0 {
-        return any_end(image, n, before, p);
-    }
-    if 2 < image[p] {
-        return any_end(image, n, before, p);
-    }
-    if image[p] % 2 == 0 {
-        return plain_end(image, before, p);
-    }
-    0
-}
-
 // Where the head of a line at p ends, if the line stands behind where the walk does and may be counted; 0 in doubt.
 pub(crate) fn accept_head(image: &[u8], n: usize, before: usize, p: usize, w: Stage) -> usize
     requires { ⌜ before ≤ p ⌝ }
@@ -175,7 +149,7 @@ pub(crate) fn accept_head(image: &[u8], n: usize, before: usize, p: usize, w: St
     if !zero {
         return 0;
     }
-    head_end(image, n, before, p)
+    any_end(image, n, before, p)
 }
 
 // The place of the table below the line at p.
@@ -191,7 +165,7 @@ pub(crate) fn submenu_of(image: &[u8], p: usize) -> usize
 // The place of the line behind the one at p, which is not the last.
 pub(crate) fn next_of(image: &[u8], p: usize) -> usize
     requires { ⌜ (passwordAt (now image) p ≤ length (now image)) × (isLast (now image) p ≡ 0) ⌝ }
-    ensures { λ r. ⌜ (r ≡ nextLine (now (image .entry)) p) × (p ≤ r) ⌝ }
+    ensures { λ r. ⌜ (r ≡ nextLine (now (image .entry)) p) × (p ≤ r) × (r < p + 65536) ⌝ }
 {
     p + word_in(image, p + 1)
 }

@@ -11,7 +11,7 @@ ghost use Rattle.walk.specs.Accept.{Passes, Moves, Next};
 use crate::claim::claim_byte;
 use crate::components::option_end;
 use crate::heads::next_of;
-use crate::heads::usual_end;
+use crate::heads::plain_end;
 use crate::heads::word_in;
 use crate::spot::Spot;
 use crate::stage::Stage;
@@ -92,7 +92,7 @@ fn next_usual(image: &[u8], n: usize, line: usize, w: Stage) -> Spot
         return behind;
     }
     let next = next_of(image, line);
-    let end = usual_end(image, line, next, w.at);
+    let end = plain_end(image, line, next, w.at);
     if end == 0 {
         return behind;
     }

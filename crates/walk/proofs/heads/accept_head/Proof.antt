@@ -28,11 +28,11 @@ is-padded-requires c κs = search needs
 returns-4 : tie.Need-returns-4
 returns-4 c = λ e. absurd (omega arith)
 
-head-end-requires : tie.Need-head-end-requires
-head-end-requires c κs = search needs
+any-end-requires : tie.Need-any-end-requires
+any-end-requires c κs = search needs
 
 returns-5 : tie.Need-returns-5
-returns-5 c = λ e. record { room = omega arith; inside = omega arith; aligned = odd-place _ _ _ (c .before .before .before .if3 .left) (omega arith) (via (c .before .before .is-padded .ensures) (not-false _ (c .before .if4 .left))); head = c .head-end .ensures e }
+returns-5 c = λ e. record { room = omega arith; inside = omega arith; aligned = odd-place _ _ _ (c .before .before .before .if3 .left) (omega arith) (via (c .before .before .is-padded .ensures) (not-false _ (c .before .if4 .left))); head = c .any-end .ensures e }
 
 pub accept-head-spec : {M : Type 1} → statement M
 accept-head-spec =
@@ -45,5 +45,5 @@ accept-head-spec =
     returns-3
     is-padded-requires
     returns-4
-    head-end-requires
+    any-end-requires
     returns-5)

@@ -31,8 +31,8 @@ returns-4 c = (λ e. clash refl e, λ _. refl)
 next-of-requires : tie.Need-next-of-requires
 next-of-requires c κs = (c .before .before .before .before .before .before .before .before .pre, omega (arith, c .before .before .if3 .left))
 
-usual-end-requires : tie.Need-usual-end-requires
-usual-end-requires c κs = c .next-of .ensures .1
+plain-end-requires : tie.Need-plain-end-requires
+plain-end-requires c κs = (omega (arith, c .before .before .before .before .before .before .before .before .before .pre), c .next-of .ensures .1, c .next-of .ensures .2)
 
 returns-5 : tie.Need-returns-5
 returns-5 c = (λ e. clash refl e, λ _. refl)
@@ -44,7 +44,7 @@ add-t16 : tie.Need-add-t16
 add-t16 c = search needs
 
 returns-6 : tie.Need-returns-6
-returns-6 c = (λ _. let h = c .before .before .usual-end .ensures (omega arith) in record { more = omega (arith, c .before .before .before .before .before .before .if3 .left); plain = omega (arith, c .before .before .before .before .if4 .left); counted = refl; few = omega arith; there = c .before .before .before .next-of .ensures .0; head = record { room = omega arith; inside = h .0; aligned = h .1 .0; head = h .1 .1 (c .before .before .before .before .before .before .before .before .before .before .before .before .args .n + 1) (omega arith) }; stage = refl }, λ e. clash e refl)
+returns-6 c = (λ _. let h = c .before .before .plain-end .ensures (omega arith) in record { more = omega (arith, c .before .before .before .before .before .before .if3 .left); plain = omega (arith, c .before .before .before .before .if4 .left); counted = refl; few = omega arith; there = c .before .before .before .next-of .ensures .0; head = record { room = omega arith; inside = h .0; aligned = h .1 .0; head = h .1 .1 (c .before .before .before .before .before .before .before .before .before .before .before .before .args .n + 1) (omega arith) }; stage = refl }, λ e. clash e refl)
 
 pub next-usual-spec : {M : Type 1} → statement M
 next-usual-spec =
@@ -58,7 +58,7 @@ next-usual-spec =
     shared-slice-read-if4
     returns-4
     next-of-requires
-    usual-end-requires
+    plain-end-requires
     returns-5
     add-t8
     add-t16
