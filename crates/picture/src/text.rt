@@ -253,7 +253,7 @@ fn put_value(
     repeat(&mut *row, at, b'#', width_of(kind))
 }
 
-// What an option shows outside a visit whose byte in the sheet is x.
+// What an option shows outside a visit; its byte in the sheet is x.
 fn put_option(
     row: &mut [u8],
     at: usize,

@@ -72,7 +72,7 @@ fn put_marks(row: &mut [u8], at: usize, edit: u8, cursor: u8, more: u8)
     put(&mut *row, last, more);
 }
 
-// The title with the marks and the number of the cursor line, which stands at a place; so many lines are counted as the mark of more lines tells.
+// The title with the marks and the number of the cursor line, which stands at a place; `count` lines are known, enough for the mark of more lines.
 fn put_title(row: &mut [u8], image: &[u8], session: Session, count: usize, line: usize, mark: u8)
     requires { ⌜ (4 ≤ session .columns) × (length (now row) ≡ session .columns) × (1 ≤ session .lines) × (moreMark count (session .lines - 1) (session .here .cursor) ≡ moreMark (lineCount (now image) (session .here .table .0)) (session .lines - 1) (session .here .cursor)) × (line ≡ cursorLine (now image) (session .here)) × ((mark ≡ 0 → ⊥) → mark ≡ editMark (now image) (session .here)) ⌝ }
     ensures { λ _. ⌜ now (row .exit) ≡ titleRow (now (image .entry)) session ⌝ }

@@ -1,4 +1,4 @@
--- The usual pieces of an image, recognised by a few tests: constant strings, options, and the heads of later lines.
+-- Pieces of an image recognised by a few tests: constant strings, options and switches, and heads by their tags.
 use Prim.Native.Nat.{ℕ, suc, _+_, _-_, _*_, _/_, _%_, _^_, _≤_, _<_, max}
 use mathlib.Core.Path.{_≡_, refl, sym, _∙_}
 use mathlib.Core.Bool.{true}

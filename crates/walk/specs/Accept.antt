@@ -46,7 +46,7 @@ pub record Placed (im : List ℕ) (n before p : ℕ) (w : Stage) (end : ℕ) : T
   pub aligned : Aligned im 1 (w .at) p
   pub head : Head im n before p end
 
--- a component that the grammar has
+-- a component that the grammar has, with its field counted and its bytes marked
 pub record Passes (im : List ℕ) (sheet p : ℕ) (v w : Stage) (old new : List ℕ) : Type 0 where
   pub fields : List Field
   pub component : Component im p (w .at) fields
@@ -89,6 +89,7 @@ pub record PartsLeft (im : List ℕ) (sheet first : ℕ) (s : State) (v : Stage)
   pub rest : onComponents im sheet mostFields (componentsFrom im (length im + 1) first) s ≡ onComponents im sheet mostFields (componentsFrom im fuel (evenFrom (v .at))) here
   pub enough : length im < v .at + fuel
 
+-- so it is from every state that has come as far as another stage
 pub record AmongParts (im : List ℕ) (sheet : ℕ) (u v : Stage) (old new : List ℕ) : Type 0 where
   pub go : (s : State) → sheet ≤ longestSheet → Stands u old s → PartsLeft im sheet (evenFrom (u .at)) s v new
 
@@ -100,6 +101,7 @@ pub record LinesLeft (im : List ℕ) (sheet below first : ℕ) (s : State) (n be
       onLines im sheet mostFields (onTable im sheet mostFields below) 0 0 (linesFrom im 100 first) s
       ≡ onLines im sheet mostFields (onTable im sheet mostFields below) n before (linesFrom im (100 - n) p) here
 
+-- and so it is from every state
 pub record AmongLines (im : List ℕ) (sheet below first : ℕ) (u : Stage) (old : List ℕ) (n before p : ℕ) (v : Stage) (new : List ℕ) : Type 0 where
   pub go : (s : State) → sheet ≤ longestSheet → Stands u old s → LinesLeft im sheet below first s n before p v new
 

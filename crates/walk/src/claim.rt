@@ -9,7 +9,7 @@ use cmf::image::Image;
 // Words with a bit for each byte that a sheet may have, and for the place behind the last.
 pub(crate) const WORDS: usize = Image::MAX_SHEET / 64 + 1;
 
-// Marks bytes of the sheet; not if one of them is marked or is not there.
+// Marks bytes of the sheet. If one of them is marked or is not there, some may be marked by then: the walk ends there.
 pub(crate) fn claim(marks: &mut [u64], sheet: usize, from: usize, size: usize) -> bool
     requires { ⌜ sheet ≤ 64 * length (now marks) ⌝ }
     ensures { λ r. ⌜ (r ≡ true → Claimed sheet (now (marks .entry)) (now (marks .exit)) from size) ⌝ }

@@ -130,6 +130,7 @@ pub(crate) fn switch_end(image: &[u8], at: usize) -> usize
     end
 }
 
+// A field, no option, if there may be one more.
 fn accept_field(image: &[u8], sheet: usize, p: usize, w: Stage, marks: &mut [u64]) -> Stage
     requires { ⌜ (p < length (now image)) × (sheet ≤ 64 * length (now marks)) ⌝ }
     ensures { λ r. ⌜ (r .good ≡ true → Passes (now (image .entry)) sheet p w r (now (marks .entry)) (now (marks .exit))) ⌝ }

@@ -36,7 +36,7 @@ fn is_odd_from(image: &[u8], at: usize, place: usize) -> bool
     false
 }
 
-// Where the head of a later line at p ends, if it stands behind `at` and has no mark but that of the last; 0 in doubt. Five bytes are asked for, which is the most that it may have.
+// Where the head of a later line at p ends, if it stands behind `at` and has no mark but that of the last; 0 in doubt. It has five bytes, and two less with that mark, whose weight is 2: there is no pointer on.
 pub(crate) fn plain_end(image: &[u8], before: usize, p: usize, at: usize) -> usize
     requires { ⌜ (before < length (now image)) × (before ≤ p) × (p < before + 65536) ⌝ }
     ensures { λ r. ⌜ (0 < r → (p < length (now (image .entry))) × (Aligned (now (image .entry)) 1 at p × ((n : ℕ) → 0 < n → Head (now (image .entry)) n before p r))) ⌝ }

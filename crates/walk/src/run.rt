@@ -17,6 +17,7 @@ use crate::spot::Spot;
 use crate::stage::Stage;
 use cmf::image::Image;
 
+// The option at p with its byte in the sheet; in doubt no byte is marked.
 fn take_option(image: &[u8], sheet: usize, p: usize, w: Stage, marks: &mut [u64]) -> Stage
     requires { ⌜ (p + 10 < length (now image)) × (byteAt (now image) p % 32 ≡ 0x14) × (sheet ≤ 64 * length (now marks)) ⌝ }
     ensures { λ r. ⌜ (r .good ≡ true → Passes (now (image .entry)) sheet p w r (now (marks .entry)) (now (marks .exit))) × (r .good ≡ false → now (marks .exit) ≡ now (marks .entry)) ⌝ }
@@ -109,7 +110,7 @@ fn next_usual(image: &[u8], n: usize, line: usize, w: Stage) -> Spot
     }
 }
 
-// From a spot within a line as far as all is usual; ten bytes of a component and one before them are in the image.
+// From a spot within a line as far as all is usual and eleven bytes of a component, the fewest that an option has, and one before them are in the image.
 pub(crate) fn run(image: &[u8], sheet: usize, start: Spot, marks: &mut [u64]) -> Spot
     requires { ⌜ (start .done ≡ false) × (passwordAt (now image) (start .line) ≤ length (now image)) × (start .stage .at ≤ length (now image)) × (sheet ≤ 64 * length (now marks)) ⌝ }
     ensures { λ r. ⌜ Moves (now (image .entry)) sheet start r (now (marks .entry)) (now (marks .exit)) ⌝ }
