@@ -1,7 +1,7 @@
 -- A component by its tests; fields of integers and of what counts as a trigger; what the definition comes to at the codes of a constant string and of an option.
 use Prim.Native.Nat.{ℕ, _+_, _-_, _%_, _≤_, _<_}
 use mathlib.Core.Path.{_≡_, refl, sym, _∙_}
-use mathlib.Core.Bool.{Bool, true, false}
+use mathlib.Core.Bool.{true, false}
 use mathlib.Core.List.{List, []}
 use native.Mathlib.Omega.{arith}
 use lib.ListN.{length}
@@ -22,7 +22,6 @@ use Rattle.field.proofs.Padded.{part-four}
 use Rattle.field.proofs.Ranges.{range-of-option, range-of-trigger}
 use Rattle.cmf.specs.Readers.{tagBit, evenFrom, textsFrom, fixedBytes, textCount, given, kindAt, defaultPlace, sheetPlaceAt, fieldBy, componentRefused, componentRead, laidOut, componentBy, componentAt}
 use Rattle.cmf.specs.declared.text.Run.{Run}
-use Rattle.cmf.specs.declared.component.Component.{Component}
 use Rattle.cmf.proofs.Codes.{integer-bytes, integer-field}
 
 -- ---- by the tests of the definition

@@ -1,6 +1,5 @@
 // The call Event: takes the session in and hands the next one back, with an answer.
 ghost use mathlib.Core.Path.{_≡_};
-ghost use lib.ListN.{length};
 ghost use Rattle.laws.specs.Choice.{_≤?_};
 ghost use Rattle.session.specs.Events.{second};
 ghost use Rattle.session.specs.Steps.{told};

@@ -1,11 +1,11 @@
 -- Lists read at a place: past the end, in a join, in a part; and what it takes for two parts to be the same.
 use Prim.Native.Nat.{ℕ, zero, suc, _+_, _-_, _≤_, _<_}
-use mathlib.Core.Path.{_≡_, refl, sym, ap, _∙_}
+use mathlib.Core.Path.{_≡_}
 use mathlib.Core.List.{List, [], _∷_, _++_, append-nil}
 use native.Mathlib.Omega.{arith}
 use native.Mathlib.Nat.{zero-add, suc-add, le-of-suc-le-suc, not-suc-le-zero}
-use lib.ListN.{length, take, drop, getD, set, length-take, length-drop, length-set, drop-of-length-le, List·getD-eq-default, List·getD-append}
-use lib.Seq.{take-nil, drop-nil, take-take, drop-drop, take-all, drop-cons, getD-take, getD-drop, getD-set-same, drop-set-lt}
+use lib.ListN.{length, take, drop, getD, length-take, length-drop, drop-of-length-le, List·getD-eq-default, List·getD-append}
+use lib.Seq.{take-nil, drop-nil, take-take, drop-drop, take-all, getD-take, getD-drop}
 use borrow.Author.Tests.{ltb-true, ltb-false}
 use Rattle.laws.specs.Choice.{if_then_else_, _<?_}
 use Rattle.laws.specs.Bytes.{byteAt, wordAt}
@@ -28,11 +28,6 @@ pub getD-right : (s t : List ℕ) (i d : ℕ) → length s ≤ i → getD (s ++ 
 getD-right [] t i d p = let e : i - 0 ≡ i = omega arith in rw e
 getD-right (x ∷ s) t zero d p = absurd (not-suc-le-zero p)
 getD-right (x ∷ s) t (suc i) d p = let e : suc i - suc (length s) ≡ i - length s = omega arith in rw e (getD-right s t i d (le-of-suc-le-suc p))
-
--- a store seen from its place on
-pub drop-set-here : (a : List ℕ) (i v : ℕ) → i < length a → drop i (set a i v) ≡ v ∷ drop (suc i) a
-drop-set-here a i v h =
-    drop-cons (set a i v) i 0 (rw length-set h) ∙ rw (getD-set-same a i v 0 h, drop-set-lt (suc i) a i v (omega arith))
 
 pub drop-take : (n k : ℕ) (l : List ℕ) → drop n (take (n + k) l) ≡ take k (drop n l)
 drop-take zero k l = rw zero-add

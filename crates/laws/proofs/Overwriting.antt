@@ -5,7 +5,7 @@ use mathlib.Core.List.{List, [], _∷_, _++_}
 use native.Mathlib.Nat.{not-suc-le-zero, le-of-suc-le-suc, zero-add, suc-add}
 use native.Mathlib.Numerals.{unary-clauses}
 use native.Mathlib.Omega.{arith}
-use lib.ListN.{length, getD, set, take, drop, replicate, drop-of-length-le}
+use lib.ListN.{length, getD, set, take, drop}
 use borrow.Author.Tests.{leb-true, leb-false}
 use Rattle.laws.specs.Choice.{_≤?_}
 use Rattle.laws.specs.Overwrite.{over, fit}
@@ -115,40 +115,6 @@ take-fit b n zero (x ∷ s) e p = absurd (omega arith)
 take-fit b n (suc k) [] e p = absurd (omega arith)
 take-fit b zero (suc k) (x ∷ s) e p = absurd (omega arith)
 take-fit b (suc n) (suc k) (x ∷ s) e p = ap (λ (r : List ℕ). x ∷ r) (take-fit b n k s (omega arith) (omega arith))
-
--- no shorter than asked for: cut; no longer: padded
-pub fit-cut : (b n : ℕ) (s : List ℕ) → n ≤ length s → fit b n s ≡ take n s
-unfolding fit
-fit-cut b zero s h = refl
-fit-cut b (suc n) [] h = absurd (omega arith)
-fit-cut b (suc n) (x ∷ s) h = ap (λ (r : List ℕ). x ∷ r) (fit-cut b n s (omega arith))
-
-fit-blanks : (b n : ℕ) → fit b n [] ≡ replicate n b
-unfolding fit
-fit-blanks b zero = refl
-fit-blanks b (suc n) = ap (λ (r : List ℕ). b ∷ r) (fit-blanks b n)
-
-pub fit-pad : (b n : ℕ) (s : List ℕ) → length s ≤ n → fit b n s ≡ s ++ replicate (n - length s) b
-unfolding fit
-fit-pad b n [] h = let z : n - 0 ≡ n = omega arith in rw z (fit-blanks b n)
-fit-pad b zero (x ∷ s) h = absurd (omega arith)
-fit-pad b (suc n) (x ∷ s) h =
-    let z : suc n - suc (length s) ≡ n - length s = omega arith in
-    rw z (ap (λ (r : List ℕ). x ∷ r) (fit-pad b n s (omega arith)))
-
--- what is cut anyway does not matter
-pub fit-take : (b n k : ℕ) (s : List ℕ) → n ≤ k → fit b n (take k s) ≡ fit b n s
-unfolding fit
-fit-take b zero k s h = refl
-fit-take b (suc n) zero s h = absurd (omega arith)
-fit-take b (suc n) (suc k) [] h = refl
-fit-take b (suc n) (suc k) (x ∷ s) h = ap (λ (r : List ℕ). x ∷ r) (fit-take b n k s (omega arith))
-
--- cutting the first of two lists can wait
-pub take-join : (k : ℕ) (s t : List ℕ) → take k (take k s ++ t) ≡ take k (s ++ t)
-take-join zero s t = refl
-take-join (suc k) [] t = refl
-take-join (suc k) (x ∷ s) t = ap (λ (r : List ℕ). x ∷ r) (take-join k s t)
 
 -- written onto blanks
 pub over-blank : (b n : ℕ) (s : List ℕ) → over (fit b n []) 0 s ≡ fit b n s

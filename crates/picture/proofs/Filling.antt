@@ -14,7 +14,7 @@ use Rattle.laws.proofs.Cases.{if-ind, if-true, if-false, if-eq, if-ne, and-l, a
 use Rattle.cmf.specs.Readers.{textBytes, headAt}
 use Rattle.cmf.specs.Places.{componentsOf, lineAt, lineCount}
 use Rattle.cmf.specs.declared.head.Head.{Head}
-use Rattle.session.specs.Fits.{leastColumns, mostColumns, leastRows, shapeFits}
+use Rattle.session.specs.Fits.{leastColumns, leastRows, shapeFits}
 use Rattle.session.specs.declared.session.Session.{Session}
 use Rattle.session.specs.declared.session.Mode.{Mode}
 use Rattle.session.specs.declared.session.Mode.the-variants as mode
@@ -24,7 +24,6 @@ use Rattle.picture.specs.Rows.{lineNumber, titleRow, passwordRow, topRow
 -- what a legal shape says
 pub record Shape (columns lines : ℕ) : Type 0 where
   pub wide : 14 ≤ columns
-  pub narrow : columns ≤ mostColumns
   pub high : 2 ≤ lines
 
 pub shape-of : (columns lines : ℕ) → shapeFits columns lines ≡ true → Shape columns lines
@@ -34,7 +33,6 @@ shape-of columns lines h =
     let b = and-r _ _ h in
     record {
       wide = leb-true leastColumns columns (and-l _ _ a);
-      narrow = leb-true columns mostColumns (and-r _ _ a);
       high = leb-true leastRows lines (and-l _ _ b);
     }
 

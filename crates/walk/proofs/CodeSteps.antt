@@ -1,6 +1,6 @@
 -- The definition of the check, one step at a time, in the shape in which the code has its facts: over variables whose premises are what
 -- the callees ensure. The code's index has a length of its own at each call; `k ≡ most` says that it is the same.
-use Prim.Native.Nat.{ℕ, zero, suc, _+_, _-_, _*_, _/_, _≤_, _<_}
+use Prim.Native.Nat.{ℕ, zero, suc, _+_, _-_, _*_, _≤_, _<_}
 use mathlib.Core.Path.{_≡_, refl, sym, ap, _∙_}
 use mathlib.Core.Bool.{Bool, true, false}
 use mathlib.Core.List.{List, [], _∷_, _++_}
@@ -9,14 +9,14 @@ use lib.ListN.{length, getD, set, length-set}
 use lib.Seq.{getD-set-same, getD-set-other}
 use lib.Dec.{eqb, leb}
 use borrow.Author.Tests.{eq-eqb, ne-eqb, le-leb, lt-leb, eqb-true, eqb-false, leb-true, leb-false}
-use Rattle.laws.specs.Choice.{if_then_else_, _and_, _<?_}
-use Rattle.laws.proofs.Cases.{by-test, if-ind, if-true, if-false, if-eq, if-ne, if-lt, if-ge, and-i, and-false}
+use Rattle.laws.specs.Choice.{if_then_else_, _and_}
+use Rattle.laws.proofs.Cases.{by-test, if-ind, if-eq, if-ne, if-lt, and-i, and-false}
 use Rattle.cmf.specs.Readers.{titleAt, headAt, componentAt}
 use Rattle.cmf.specs.Places.{linesFrom, linesOf, componentsFrom, componentsOf}
 use Rattle.cmf.specs.declared.title.Title.{Title}
 use Rattle.cmf.specs.declared.head.Head.{Head}
 use Rattle.cmf.specs.declared.component.Component.{Component}
-use Rattle.walk.specs.Check.{State, state, with, fine, refused, behind, andThen, takeTitle, countLine, takeLine, apart, apartFrom, takeComponent, onComponent, onComponents, onHead, onTitle, onSubmenu, onBody, onLine, onLines, onTable}
+use Rattle.walk.specs.Check.{State, state, fine, refused, behind, andThen, takeTitle, countLine, takeLine, apart, apartFrom, takeComponent, onComponent, onComponents, onHead, onTitle, onSubmenu, onBody, onLine, onLines, onTable}
 use Rattle.walk.specs.Index.{entry, capacity, entryAt, listed, withEntry, seen}
 use Rattle.walk.specs.declared.index.Entry.{Entry}
 use Rattle.walk.specs.declared.state.Walk.{Walk}
@@ -39,10 +39,6 @@ ends-test f n at h =
     (λ e. let q = leb-false (f + n) at e in lt-leb f (at - n) (omega arith) ∙ sym e)
 
 -- ---- the index
-
-pub length-with : (xs : List ℕ) (k : ℕ) (e : Entry) → length (withEntry xs k e) ≡ length xs
-unfolding withEntry
-length-with xs k e = if-ind (λ (l : List ℕ). length l ≡ length xs) (k <? capacity xs) (λ _. simp length-set) (λ _. refl)
 
 -- the entry that was set, and those before it
 module _ (xs : List ℕ) (k : ℕ) (e : Entry) (h : k < capacity xs) where

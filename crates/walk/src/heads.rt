@@ -3,7 +3,7 @@ ghost use mathlib.Core.Path.{_≡_};
 ghost use mathlib.Core.Bool.{true};
 ghost use Prim.Native.Nat.{ℕ, _+_, _%_, _<_, _≤_};
 ghost use lib.ListN.{length};
-ghost use Rattle.laws.specs.Bytes.{byteAt, wordAt};
+ghost use Rattle.laws.specs.Bytes.{wordAt};
 ghost use Rattle.cmf.specs.Layouts.{Aligned, Text};
 ghost use Rattle.cmf.specs.Grammar.{Digits, Head, isLast, passwordAt, hasSubmenu, nextLine, submenuTable};
 ghost use Rattle.walk.specs.Accept.{Linked, Placed};

@@ -4,7 +4,6 @@ use native.Mathlib.Omega.{arith}
 use borrow.Author.Tests.{eq-eqb, ne-eqb}
 use Rattle.picture.proofs.Filling.{area}
 use Rattle.handset.proofs.Ordering.{refused-before, refused-here, not-refused}
-use borrow.Author.Needs.{needs}
 use Rattle.handset.proofs.draw.draw_refusal.Statement.{statement}
 use Rattle.handset.proofs.draw.draw_refusal.Tie as tie
 

@@ -2,7 +2,6 @@
 use mathlib.Core.Path.{refl}
 use borrow.Author.Tests.{le-leb, lt-leb}
 use Rattle.handset.proofs.Ordering.{refused-before, refused-here, not-refused}
-use borrow.Author.Needs.{needs}
 use Rattle.handset.proofs.event.event_refusal.Statement.{statement}
 use Rattle.handset.proofs.event.event_refusal.Tie as tie
 
