@@ -9,9 +9,7 @@ use lib.ListN.{length, length-take}
 use borrow.Author.Tests.{eq-eqb, ne-eqb, eqb-true}
 use Rattle.laws.specs.Choice.{_=?_, _<?_}
 use Rattle.laws.specs.Bytes.{byteAt}
-use Rattle.laws.specs.Overwrite.{over}
 use Rattle.laws.proofs.Cases.{if-ind, if-eq, if-ne}
-use Rattle.laws.proofs.Overwriting.{over-all}
 use Rattle.walk.specs.Check.{refusalOf}
 use Rattle.cmf.specs.Readers.{itemFrom, itemPlace}
 use Rattle.session.specs.Session.{closed}
@@ -34,11 +32,6 @@ use Rattle.binding.specs.Layout.{sessionBytes, sessionIn, sessionFrom}
 use Rattle.binding.specs.Answers.{refusedBy, placeOf, cursorNumber}
 use Rattle.binding.specs.Calls.{openNumber, openedSheet, openedBytes, openedSession, eventNumber, eventBytes, drawNumber, textNumber}
 use Rattle.binding.proofs.Answering.{step-plain, short, cursor-plain}
-
--- ---- a session written to a buffer of its length
-
-pub written : (bs t : List ℕ) (s : Session) → length bs ≡ 230 → length (sessionBytes s) ≡ 230 → t ≡ over bs 0 (sessionBytes s) → t ≡ sessionBytes s
-written bs t s h k e = e ∙ over-all bs (sessionBytes s) (k ∙ sym h)
 
 -- ---- Open
 
@@ -81,21 +74,20 @@ module _ (im : List ℕ) (sheet columns lines : ℕ) where
   unfolding openedBytes
   bytes-kept bs h = sym (if-ne _ 230 _ _ h)
 
-  pub bytes-opened : (bs t : List ℕ) (o : Opened) → length bs ≡ 230 → length (sessionBytes (o .session)) ≡ 230 → o ≡ openAnswer im sheet columns lines
-      → t ≡ over bs 0 (sessionBytes (o .session)) → t ≡ openedBytes im sheet columns lines bs
+  pub bytes-opened : (bs t : List ℕ) (o : Opened) → length bs ≡ 230 → o ≡ openAnswer im sheet columns lines → t ≡ sessionBytes (o .session)
+      → t ≡ openedBytes im sheet columns lines bs
   unfolding openedBytes
-  bytes-opened bs t o h k e f = written bs t (o .session) h k f ∙ ap (λ (x : Opened). sessionBytes (x .session)) e ∙ sym (if-eq _ 230 _ _ h)
+  bytes-opened bs t o h e f = f ∙ ap (λ (x : Opened). sessionBytes (x .session)) e ∙ sym (if-eq _ 230 _ _ h)
 
   pub session-closed : (bs : List ℕ) → (length bs ≡ 230 → ⊥) → sessionFrom bs ≡ openedSession im sheet columns lines (length bs)
   unfolding sessionFrom openedSession
   session-closed bs h = if-ne _ 230 _ _ h ∙ sym (if-ne _ 230 _ _ h)
 
-  pub session-opened : (bs t : List ℕ) (o : Opened) → length bs ≡ 230 → length (sessionBytes (o .session)) ≡ 230 → o ≡ openAnswer im sheet columns lines
-      → t ≡ over bs 0 (sessionBytes (o .session)) → sessionFrom (sessionBytes (o .session)) ≡ o .session
-      → sessionFrom t ≡ openedSession im sheet columns lines (length bs)
+  pub session-opened : (bs t : List ℕ) (o : Opened) → length bs ≡ 230 → o ≡ openAnswer im sheet columns lines → t ≡ sessionBytes (o .session)
+      → sessionFrom (sessionBytes (o .session)) ≡ o .session → sessionFrom t ≡ openedSession im sheet columns lines (length bs)
   unfolding openedSession
-  session-opened bs t o h k e f b =
-      ap (λ (l : List ℕ). sessionFrom l) (written bs t (o .session) h k f) ∙ b ∙ ap (λ (x : Opened). x .session) e ∙ sym (if-eq _ 230 _ _ h)
+  session-opened bs t o h e f b =
+      ap (λ (l : List ℕ). sessionFrom l) f ∙ b ∙ ap (λ (x : Opened). x .session) e ∙ sym (if-eq _ 230 _ _ h)
 
 module _ (im sheet : List ℕ) (columns lines n : ℕ) where
   pub sheet-kept : (n ≡ 230 → ⊥) → sheet ≡ openedSheet im sheet columns lines n

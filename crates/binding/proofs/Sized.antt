@@ -24,10 +24,10 @@ use Rattle.session.proofs.session.Mode as modes
 use Rattle.binding.specs.Sized.{Places, Numbers, ModeSized, Sized}
 
 pub cells-length : (s : Session) (vs : List Val) → Is (row the-type) s vs → length (s .work .cells) ≡ 32
-cells-length s vs g = simp length-map at (g .1 .1 .1 .1 .1 .1 .1 .1 .1 .0 .1 .1 .0 .1 .0 .1)
+cells-length s vs g = simp length-map at (g .1 .1 .1 .1 .1 .0 .1 .1 .0 .1 .0 .1)
 
 pub typed-length : (s : Session) (vs : List Val) → Is (row the-type) s vs → length (s .typed) ≡ 8
-typed-length s vs g = simp length-map at (g .1 .1 .1 .1 .1 .1 .1 .1 .1 .1 .0 .1 .0 .1)
+typed-length s vs g = simp length-map at (g .1 .1 .1 .1 .1 .1 .0 .1 .0 .1)
 
 -- each number of an array fits its width
 numbers-fit : (w : Width) (n : ℕ) → 2 ^ bits w ≡ 256 ^ n → (xs : List ℕ) (us : List Val)
@@ -46,10 +46,10 @@ byte-fits (x ∷ xs) (u ∷ us) g (suc i) = byte-fits xs us (g .1) i
 -- ---- a session
 
 cells-fit : (s : Session) (vs : List Val) → Is (row the-type) s vs → Numbers 4 (s .work .cells)
-cells-fit s vs g = numbers-fit w32 4 refl (s .work .cells) _ (g .1 .1 .1 .1 .1 .1 .1 .1 .1 .0 .1 .1 .0 .1 .1)
+cells-fit s vs g = numbers-fit w32 4 refl (s .work .cells) _ (g .1 .1 .1 .1 .1 .0 .1 .1 .0 .1 .1)
 
 typed-fit : (s : Session) (vs : List Val) → Is (row the-type) s vs → Numbers 1 (s .typed)
-typed-fit s vs g = numbers-fit w8 1 refl (s .typed) _ (g .1 .1 .1 .1 .1 .1 .1 .1 .1 .1 .0 .1 .1)
+typed-fit s vs g = numbers-fit w8 1 refl (s .typed) _ (g .1 .1 .1 .1 .1 .1 .0 .1 .1)
 
 -- each level's place is 64 bits
 levels-fit : (ls : List Level) (us : List Val) → shadow (each _ (level.the-field .row .own) (map (level.the-field .into) ls) us) → Places ls
@@ -65,9 +65,9 @@ mode-fits (mode.Password n) vs g = g .1 .1 .1 .1 .0 .1
 pub sized : (s : Session) (vs : List Val) → Is (row the-type) s vs → Sized s
 sized s vs g = record {
   seven = above-length s vs g;
-  above = levels-fit (s .above) _ (g .1 .1 .1 .1 .1 .0 .1 .1);
-  here = g .1 .1 .1 .1 .1 .1 .0 .1 .1 .0 .1 .1 .0 .1;
-  mode = mode-fits (s .mode) _ (g .1 .1 .1 .1 .1 .1 .1 .1 .0);
+  above = levels-fit (s .above) _ (g .1 .1 .0 .1 .1);
+  here = g .1 .1 .1 .0 .1 .1 .0 .1 .1 .0 .1;
+  mode = mode-fits (s .mode) _ (g .1 .1 .1 .1 .0);
   thirty-two = cells-length s vs g;
   cells = cells-fit s vs g;
   eight = typed-length s vs g;

@@ -14,7 +14,6 @@ use crate::answer::told;
 use crate::layout::SIZE;
 use crate::read::read_session;
 use crate::write::write_session;
-use crate::write::write_sized;
 use cmf::text::item_place;
 use field::kind::ImagePlace;
 use handset::draw::draw;
@@ -83,7 +82,7 @@ pub extern "C" fn handset_event(
     let stepped = before.step(image, &mut *sheet, event);
     let answer = stepped.answer;
     let next = stepped.session;
-    write_sized(&mut *session, next);
+    write_session(&mut *session, next);
     told(answer)
 }
 

@@ -5,7 +5,7 @@ ghost use Prim.Native.Nat.{_+_, _≤_};
 ghost use lib.ListN.{length};
 ghost use Rattle.laws.specs.Overwrite.{over};
 ghost use Rattle.binding.specs.Numbers.{numbersBytes};
-ghost use Rattle.binding.specs.Layout.{levelBytes, levelsBytes, modeBytes, shownBytes, doingBytes, sessionBytes, sessionSize, sessionFrom};
+ghost use Rattle.binding.specs.Layout.{levelBytes, levelsBytes, modeBytes, shownBytes, doingBytes, sessionBytes, sessionFrom};
 use crate::layout::ABOVE;
 use crate::layout::BROWSING;
 use crate::layout::CELL;
@@ -16,7 +16,6 @@ use crate::layout::IDLE;
 use crate::layout::LEVEL;
 use crate::layout::MODE;
 use crate::layout::PASSWORD;
-use crate::layout::SIZE;
 use crate::layout::TYPED;
 use crate::layout::VISIT;
 use crate::number::write_byte;
@@ -126,34 +125,12 @@ fn write_doing(bytes: &mut [u8], session: Session)
     write_typed(&mut *bytes, typed);
 }
 
-// Into bytes of a session's length.
-pub(crate) fn write_sized(bytes: &mut [u8], session: Session)
+// Into bytes of a session's length; they are read back as that session.
+pub(crate) fn write_session(bytes: &mut [u8], session: Session)
     requires { ⌜ length (now bytes) ≡ 230 ⌝ }
     ensures { λ _. ⌜ now (bytes .exit) ≡ sessionBytes session ⌝ }
     ensures { λ _. ⌜ sessionFrom (sessionBytes session) ≡ session ⌝ }
 {
     write_shown(&mut *bytes, session);
     write_doing(&mut *bytes, session);
-}
-
-// As many of the bytes as there is room for.
-fn write_bytes(bytes: &mut [u8], whole: [u8; SIZE])
-    ensures { λ _. ⌜ now (bytes .exit) ≡ over (now (bytes .entry)) 0 whole ⌝ }
-{
-    let mut i = 0;
-    while i < SIZE && i < bytes.len() {
-        bytes[i] = whole[i];
-        i = i + 1;
-    }
-}
-
-// Every session has bytes of the same length, and they are read back as that session.
-pub fn write_session(bytes: &mut [u8], session: Session)
-    ensures { λ _. ⌜ now (bytes .exit) ≡ over (now (bytes .entry)) 0 (sessionBytes session) ⌝ }
-    ensures { λ _. ⌜ length (sessionBytes session) ≡ sessionSize ⌝ }
-    ensures { λ _. ⌜ sessionFrom (sessionBytes session) ≡ session ⌝ }
-{
-    let mut whole = [0; SIZE];
-    write_sized(&mut whole, session);
-    write_bytes(&mut *bytes, whole);
 }

@@ -288,7 +288,7 @@ module _ (im : List ℕ) where
       abbrev f : Field
       f = fieldAt im (p .0)
 
-      here : visitFits im s (p .0) ≡ true
+      here : visitFits im (cursorLine im (s .here)) (s .work) (p .0) ≡ true
       unfolding modeFits
       here = mode-fits (mode.Visit p) m
 

@@ -16,7 +16,7 @@ use Rattle.cmf.specs.Limits.{prologBytes, deepestTable}
 use Rattle.cmf.specs.Places.{lineCount}
 use Rattle.walk.proofs.Reach.{some-line}
 use Rattle.session.specs.Session.{level, noLevel}
-use Rattle.session.specs.Fits.{shapeFits, cursorHead, levelFits, levelsFit, tablesFit, visitFits, entryFits, modeFits, sessionFits}
+use Rattle.session.specs.Fits.{shapeFits, cursorHead, levelFits, levelsFit, tablesFit, modeFits, sessionFits}
 use Rattle.session.specs.Steps.{taken, flash, withIdle, showing, doing}
 use Rattle.session.specs.Seconds.{later, waited, atTop, browseSecond}
 use Rattle.session.specs.Browsing.{firstFor, cursorOn, upStep, downStep, leftStep, descended}
@@ -146,7 +146,7 @@ pub record Keeps (im : List ℕ) (c l : ℕ) (r : Stepped) : Type 0 where
 
 -- what a mode asks is asked of the level shown, the working copy and the digits typed
 mode-same : (im : List ℕ) (s z : Session) (m : Mode) → z .here ≡ s .here → z .work ≡ s .work → z .typed ≡ s .typed → modeFits im s m ≡ true → modeFits im z m ≡ true
-unfolding modeFits visitFits entryFits
+unfolding modeFits
 mode-same im s z mode.Browsing a b d h = refl
 mode-same im s z (mode.Visit p) a b d h = rw (a, b) h
 mode-same im s z (mode.Password n) a b d h = rw (a, d) h

@@ -57,7 +57,7 @@ module _ (im : List ℕ) (c l : ℕ) (shape : shapeFits c l ≡ true) (sheet : �
 
   -- RIGHT
   pub right-keeps : (s : Session) → Good im c l s → s .mode ≡ mode.Browsing → Keeps im c l (rightStep im s)
-  unfolding rightStep modeFits entryFits digitsTo
+  unfolding rightStep modeFits entryFits cursorHead digitsTo
   right-keeps s g b =
       by-keeps im c l _
       (λ m. by-keeps im c l _
@@ -71,10 +71,10 @@ module _ (im : List ℕ) (c l : ℕ) (shape : shapeFits c l ≡ true) (sheet : �
 
   -- ---- an entry of n digits
 
-  module _ (s : Session) (g : Good im c l s) (n : ℕ) (f : entryFits im s n ≡ true) where
+  module _ (s : Session) (g : Good im c l s) (n : ℕ) (f : entryFits im (cursorLine im (s .here)) (s .typed) n ≡ true) where
     -- the line is protected, and the digits typed are digits
     protected-here : cursorHead im (s .here) .protected ≡ true
-    unfolding entryFits
+    unfolding entryFits cursorHead
     protected-here = and-l _ _ f
 
     typed-digits : digitsTo (s .typed) n ≡ true
@@ -99,7 +99,7 @@ module _ (im : List ℕ) (c l : ℕ) (shape : shapeFits c l ≡ true) (sheet : �
 
       -- a digit, the last or another
       digit-keeps : Keeps im c l (digitStep im s (cursorHead im (s .here)) n d)
-      unfolding digitStep modeFits entryFits
+      unfolding digitStep modeFits entryFits cursorHead
       digit-keeps =
           by-keeps im c l _
           (λ h. record {
@@ -117,8 +117,8 @@ module _ (im : List ℕ) (c l : ℕ) (shape : shapeFits c l ≡ true) (sheet : �
         by-keeps im c l _ (λ _. record { good = browsing-good im c l _ z (s .typed) (g .sized .typed) }) (λ _. record { good = z })
 
   -- what the mode asks of the session, whatever the idle count
-  asks : (s : Session) → Good im c l s → (n : ℕ) → s .mode ≡ mode.Password n → entryFits im s n ≡ true
-  unfolding modeFits entryFits
+  asks : (s : Session) → Good im c l s → (n : ℕ) → s .mode ≡ mode.Password n → entryFits im (cursorLine im (s .here)) (s .typed) n ≡ true
+  unfolding modeFits
   asks s g n m = rw m at (g .mode)
 
   -- every event of an entry

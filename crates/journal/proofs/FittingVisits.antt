@@ -91,8 +91,8 @@ module _ (im : List ℕ) (c l : ℕ) (shape : shapeFits c l ≡ true) (n : ℕ) 
       followed-keeps sheet f k t u v outcome.Passed x e h z = record { good = moved-good sheet }
 
   -- what the mode asks of the session
-  visited : (s : Session) → Good im c l s → (p : ImagePlace) → s .mode ≡ mode.Visit p → visitFits im s (p .0) ≡ true
-  unfolding modeFits visitFits
+  visited : (s : Session) → Good im c l s → (p : ImagePlace) → s .mode ≡ mode.Visit p → visitFits im (cursorLine im (s .here)) (s .work) (p .0) ≡ true
+  unfolding modeFits
   visited s g p m = rw m at (g .mode)
 
   -- every event of a visit

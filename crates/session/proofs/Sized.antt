@@ -9,4 +9,4 @@ use Rattle.session.specs.declared.session.Session.{Session}
 use Rattle.session.proofs.session.Session.{the-type}
 
 pub above-length : (s : Session) (vs : List Val) → Is (row the-type) s vs → length (s .above) ≡ 7
-above-length s vs g = simp length-map at (g .1 .1 .1 .1 .1 .0 .1 .0 .1)
+above-length s vs g = simp length-map at (g .1 .1 .0 .1 .0 .1)

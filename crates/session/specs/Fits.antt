@@ -68,11 +68,11 @@ among p (q ∷ qs) = if q =? p then true else among p qs
 unfoldable pub workFits : Kind → Work → Bool
 workFits k w = (w .at <? profileOf k .cells) and (if profileOf k .fires then true else legal k (w .cells))
 
--- an open visit is of an editable field or trigger on the cursor line
-unfoldable pub visitFits : List ℕ → Session → ℕ → Bool
-visitFits im s p =
-    among p (componentsOf im (cursorLine im (s .here)))
-    and (componentAt im p .holds and (componentAt im p .editable and workFits (componentAt im p .field .kind) (s .work)))
+-- an open visit, with its working copy, is of an editable field or trigger on the cursor line, which stands at a place
+unfoldable pub visitFits : List ℕ → ℕ → Work → ℕ → Bool
+visitFits im line w p =
+    among p (componentsOf im line)
+    and (componentAt im p .holds and (componentAt im p .editable and workFits (componentAt im p .field .kind) w))
 
 -- the first n numbers are digits
 unfoldable pub digitsTo : List ℕ → ℕ → Bool
@@ -80,16 +80,15 @@ digitsTo ds zero = true
 digitsTo ds (suc n) = digitsTo ds n and (getD ds n 0 ≤? lastDigitKey)
 
 -- a password entry is for a protected submenu of the cursor line and keeps the digits typed, fewer than it has
-unfoldable pub entryFits : List ℕ → Session → ℕ → Bool
-entryFits im s n =
-    cursorHead im (s .here) .protected
-    and ((n <? byteAt im (cursorHead im (s .here) .password)) and digitsTo (s .typed) n)
+unfoldable pub entryFits : List ℕ → ℕ → List ℕ → ℕ → Bool
+entryFits im line typed n =
+    headAt im line .protected and ((n <? byteAt im (headAt im line .password)) and digitsTo typed n)
 
 -- browsing asks nothing more; a visit and a password entry ask their own clause
 unfoldable pub modeFits : List ℕ → Session → Mode → Bool
 modeFits im s mode.Browsing = true
-modeFits im s (mode.Visit p) = visitFits im s (p .0)
-modeFits im s (mode.Password n) = entryFits im s n
+modeFits im s (mode.Visit p) = visitFits im (cursorLine im (s .here)) (s .work) (p .0)
+modeFits im s (mode.Password n) = entryFits im (cursorLine im (s .here)) (s .typed) n
 
 -- 01: shape, tables, idle count, mode; the idle count is a byte and so at most 255
 unfoldable pub sessionFits : List ℕ → Session → Bool

@@ -4,12 +4,10 @@ ghost use mathlib.Core.Bool.{true, false};
 ghost use Prim.Native.Nat.{_-_};
 ghost use lib.ListN.{getD, take};
 ghost use Rattle.laws.specs.Choice.{_and_, _<?_};
-ghost use Rattle.laws.specs.Bytes.{byteAt};
 ghost use Rattle.cmf.specs.Limits.{prologBytes, deepestTable};
-ghost use Rattle.cmf.specs.Readers.{headAt, componentAt};
 ghost use Rattle.cmf.specs.Places.{componentsOf, lineAt, lineCount};
 ghost use Rattle.session.specs.Session.{noLevel};
-ghost use Rattle.session.specs.Fits.{shapeFits, cursorLine, cursorHead, levelFits, levelsFit, among, workFits, digitsTo, sessionFits};
+ghost use Rattle.session.specs.Fits.{shapeFits, cursorLine, cursorHead, levelFits, levelsFit, among, workFits, visitFits, digitsTo, entryFits, sessionFits};
 use crate::session::Level;
 use crate::session::Mode;
 use crate::session::Session;
@@ -212,7 +210,7 @@ fn shown_line(
 
 // Whether a visit of the component at a place fits the cursor line.
 fn visit_fits(image: &[u8], line: usize, place: usize, work: Work) -> bool
-    ensures { λ r. ⌜ r ≡ (among place (componentsOf (now (image .entry)) line) and (componentAt (now (image .entry)) place .holds and (componentAt (now (image .entry)) place .editable and workFits (componentAt (now (image .entry)) place .field .kind) work))) ⌝ }
+    ensures { λ r. ⌜ r ≡ visitFits (now (image .entry)) line work place ⌝ }
 {
     let on_line = is_on_line(image, line, place);
     if !on_line {
@@ -247,7 +245,7 @@ fn digits_to(typed: [u8; Image::MAX_PASSWORD], n: u8) -> bool
 
 // Whether a password entry with n digits typed fits the cursor line.
 fn entry_fits(image: &[u8], line: usize, n: u8, typed: [u8; Image::MAX_PASSWORD]) -> bool
-    ensures { λ r. ⌜ r ≡ (headAt (now (image .entry)) line .protected and ((n <? byteAt (now (image .entry)) (headAt (now (image .entry)) line .password)) and digitsTo typed n)) ⌝ }
+    ensures { λ r. ⌜ r ≡ entryFits (now (image .entry)) line typed n ⌝ }
 {
     let h = read_head(image, line);
     if !h.protected {

@@ -19,18 +19,19 @@ pub enum Mode {
     Password(u8),
 }
 
-// columns, lines: of the display. outer: how many tables are open above the shown one, `above` those from the top, `here` the shown one.
-// idle: the idle count, seconds since the last key that were not in a visit. work: the working copy of a visit. typed: the digits typed in a password entry.
+// above: the open tables above the shown one, from the top, `outer` of them; here: the shown one. work: the working copy of a visit. typed: the digits typed
+// in a password entry. columns, lines: of the display. idle: the idle count, seconds since the last key that were not in a visit. Wide fields come first: there is
+// no gap before them, and copies stay aligned.
 pub struct Session {
-    pub columns: u8,
-    pub lines: u8,
-    pub outer: u8,
     pub above: [Level; Session::MAX_ABOVE],
     pub here: Level,
-    pub idle: u8,
     pub mode: Mode,
     pub work: Work,
     pub typed: [u8; Image::MAX_PASSWORD],
+    pub columns: u8,
+    pub lines: u8,
+    pub outer: u8,
+    pub idle: u8,
 }
 
 impl Session {

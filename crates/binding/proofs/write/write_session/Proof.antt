@@ -1,35 +1,28 @@
--- All of it, then as much as there is room for.
-use mathlib.Core.Path.{ap, _∙_}
-use mathlib.Core.List.{List}
-use Prim.Native.Nat.{ℕ}
-use Rattle.laws.specs.Overwrite.{over}
-use Rattle.binding.proofs.Layouts.{length-session}
+-- What is shown, then what is done: all of the bytes.
+use mathlib.Core.Path.{sym, _∙_}
+use native.Mathlib.Omega.{arith}
+use Rattle.laws.proofs.Overwriting.{over-all}
+use Rattle.binding.specs.Layout.{shownBytes, doingBytes, sessionBytes}
+use Rattle.binding.proofs.Layouts.{joined, length-shown, length-session}
 use Rattle.binding.proofs.Sized.{sized}
+use Rattle.binding.proofs.ReadBack.{read-back}
 use borrow.Author.Needs.{needs}
 use Rattle.binding.proofs.write.write_session.Statement.{statement}
 use Rattle.binding.proofs.write.write_session.Tie as tie
 
-slice-aggregate-write-sized : tie.Need-slice-aggregate-write-sized
-slice-aggregate-write-sized c = search needs
+write-shown-requires : tie.Need-write-shown-requires
+write-shown-requires c κs = search needs
 
-write-sized-requires : tie.Need-write-sized-requires
-write-sized-requires c κs = search needs
-
-write-bytes-requires : tie.Need-write-bytes-requires
-write-bytes-requires c κs = search needs
+write-doing-requires : tie.Need-write-doing-requires
+write-doing-requires c κs = search needs
 
 same-length : tie.Need-same-length
 same-length c = search needs
 
 returns : tie.Need-returns
-returns c = let s = c .before .before .before .before .before .before .before .before .args .session in let z = sized s _ (c .before .before .before .before .before .before .before .before .good .1 .0) in (c .before .before .write-bytes .ensures ∙ ap (λ (l : List ℕ). over (c .before .before .before .before .before .before .before .before .args .bytes .now) 0 l) (c .before .before .before .before .before .write-sized .ensures .0), (length-session s (z .seven) (z .thirty-two) (z .eight), c .before .before .before .before .before .write-sized .ensures .1))
+unfolding sessionBytes
+returns c = let s = c .before .before .before .before .before .before .before .before .before .args .session in let z = sized s _ (c .before .before .before .before .before .before .before .before .before .good .1 .0) in let n = length-session s (z .seven) (z .thirty-two) (z .eight) in let all = joined _ 0 84 (shownBytes s) (doingBytes s) (c .before .before .before .before .before .before .write-shown .ensures) (c .before .before .write-doing .ensures) (omega (arith, length-shown s (z .seven))) in (all ∙ over-all _ (sessionBytes s) (n ∙ sym (c .before .before .before .before .before .before .before .before .before .pre)), read-back s z)
 
 pub write-session-spec : {M : Type 1} → statement M
 write-session-spec =
-    tie.close
-    (tie.spec
-    slice-aggregate-write-sized
-    write-sized-requires
-    write-bytes-requires
-    same-length
-    returns)
+    tie.close (tie.spec write-shown-requires write-doing-requires same-length returns)

@@ -7,7 +7,7 @@ use lib.ListN.{length}
 use Rattle.laws.specs.Overwrite.{over}
 use Rattle.cmf.specs.Places.{lineAt, lineCount}
 use Rattle.picture.specs.Rows.{editMark, rowsFrom, rowsBelow}
-use Rattle.picture.proofs.Sized.{work-length}
+use Rattle.picture.proofs.Sized.{work-length, columns-byte, lines-byte}
 use Rattle.picture.proofs.Filling.{area, length-row-at, rows-sum, rows-less, rows-turn, rows-done, lent-row, lent-length}
 use Rattle.picture.proofs.Lines.{mark-turn}
 use Rattle.picture.proofs.Knowing.{row-known, line-next, known-turn, cursor-turn}
@@ -38,7 +38,7 @@ read-head-requires : tie.Need-read-head-requires Inv-loop μ-loop
 read-head-requires c κs = search needs
 
 add-end : tie.Need-add-end Inv-loop μ-loop
-add-end c = omega (arith, rows-less (c .before .before .before .before .before .before .before .before .before .before .before .before .args .session .columns) (c .before .before .loop .left) (c .before .before .loop .at) _ (c .before .loop-test .taken) (c .before .before .loop .inv .1), c .before .before .before .before .before .before .before .before .before .before .before .before .pre .2, area (c .before .before .before .before .before .before .before .before .before .before .before .before .args .session .columns) (c .before .before .before .before .before .before .before .before .before .before .before .before .args .session .lines) (search needs) (search needs))
+add-end c = omega (arith, rows-less (c .before .before .before .before .before .before .before .before .before .before .before .before .args .session .columns) (c .before .before .loop .left) (c .before .before .loop .at) _ (c .before .loop-test .taken) (c .before .before .loop .inv .1), c .before .before .before .before .before .before .before .before .before .before .before .before .pre .2, area (c .before .before .before .before .before .before .before .before .before .before .before .before .args .session .columns) (c .before .before .before .before .before .before .before .before .before .before .before .before .args .session .lines) (omega (arith, columns-byte (c .before .before .before .before .before .before .before .before .before .before .before .before .args .session) _ (c .before .before .before .before .before .before .before .before .before .before .before .before .good .1 .1 .0))) (omega (arith, lines-byte (c .before .before .before .before .before .before .before .before .before .before .before .before .args .session) _ (c .before .before .before .before .before .before .before .before .before .before .before .before .good .1 .1 .0))))
 
 sub-put-row : tie.Need-sub-put-row Inv-loop μ-loop
 sub-put-row c = omega (arith, rows-less (c .before .before .before .before .before .before .before .before .before .before .before .before .args .session .columns) (c .before .before .loop .left) (c .before .before .loop .at) _ (c .before .loop-test .taken) (c .before .before .loop .inv .1), c .before .before .loop .inv .0)

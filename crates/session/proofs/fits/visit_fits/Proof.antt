@@ -2,6 +2,7 @@
 use Rattle.laws.specs.Choice.{_and_}
 use borrow.Author.Tests.{not-true, not-false}
 use Rattle.laws.proofs.Cases.{via}
+use Rattle.session.specs.Fits.{visitFits}
 use borrow.Author.Needs.{needs}
 use Rattle.session.proofs.fits.visit_fits.Statement.{statement}
 use Rattle.session.proofs.fits.visit_fits.Tie as tie
@@ -10,25 +11,25 @@ is-on-line-requires : tie.Need-is-on-line-requires
 is-on-line-requires c κs = search needs
 
 returns : tie.Need-returns
-unfolding _and_
+unfolding visitFits _and_
 returns c = simp ((via (c .before .is-on-line .ensures) (not-true _ (c .if1 .taken))))
 
 read-component-requires : tie.Need-read-component-requires
 read-component-requires c κs = search needs
 
 returns-2 : tie.Need-returns-2
-unfolding _and_
+unfolding visitFits _and_
 returns-2 c = simp ((via (c .before .before .before .before .is-on-line .ensures) (not-false _ (c .before .before .before .if1 .left))), ← c .before .before .read-component .ensures, not-true (c .before .before .read-component .result .holds) (c .if2 .taken))
 
 returns-3 : tie.Need-returns-3
-unfolding _and_
+unfolding visitFits _and_
 returns-3 c = simp ((via (c .before .before .before .before .before .before .is-on-line .ensures) (not-false _ (c .before .before .before .before .before .if1 .left))), ← c .before .before .before .before .read-component .ensures, not-false (c .before .before .before .before .read-component .result .holds) (c .before .before .if2 .left), not-true (c .before .before .before .before .read-component .result .editable) (c .if3 .taken))
 
 work-fits-requires : tie.Need-work-fits-requires
 work-fits-requires c κs = search needs
 
 returns-4 : tie.Need-returns-4
-unfolding _and_
+unfolding visitFits _and_
 returns-4 c = simp ((via (c .before .before .before .before .before .before .before .before .is-on-line .ensures) (not-false _ (c .before .before .before .before .before .before .before .if1 .left))), ← c .before .before .before .before .before .before .read-component .ensures, not-false (c .before .before .before .before .before .before .read-component .result .holds) (c .before .before .before .before .if2 .left), not-false (c .before .before .before .before .before .before .read-component .result .editable) (c .before .before .if3 .left), c .work-fits .ensures)
 
 pub visit-fits-spec : {M : Type 1} → statement M

@@ -2,7 +2,7 @@
 use Rattle.laws.specs.Choice.{_and_}
 use borrow.Author.Tests.{not-true, not-false}
 use Rattle.laws.proofs.Cases.{via}
-use Rattle.session.specs.Fits.{sessionFits, tablesFit, modeFits, visitFits, entryFits, cursorHead}
+use Rattle.session.specs.Fits.{sessionFits, tablesFit, modeFits}
 use borrow.Author.Needs.{needs}
 use Rattle.session.proofs.session.Session.fits.Statement.{statement}
 use Rattle.session.proofs.session.Session.fits.Tie as tie
@@ -41,11 +41,11 @@ unfolding sessionFits tablesFit modeFits _and_
 returns-3 c = simp (via (c .before .before .before .before .before .before .before .before .shape-fits .ensures) (not-false _ (c .before .before .before .before .before .before .before .if1 .left)), via (c .before .before .before .before .shown-line .ensures .0) (not-false (c .before .before .before .before .shown-line .result .there) (c .before .before .if2 .left)), c .enum-told .given .1)
 
 returns-4 : tie.Need-returns-4
-unfolding sessionFits tablesFit modeFits visitFits _and_
+unfolding sessionFits tablesFit modeFits _and_
 returns-4 c = simp (via (c .before .before .before .before .before .before .before .before .before .before .before .shape-fits .ensures) (not-false _ (c .before .before .before .before .before .before .before .before .before .before .if1 .left)), via (c .before .before .before .before .before .before .before .shown-line .ensures .0) (not-false (c .before .before .before .before .before .before .before .shown-line .result .there) (c .before .before .before .before .before .if2 .left)), c .before .before .before .mode .given .1, c .visit-fits .ensures, c .before .before .before .before .before .before .before .shown-line .ensures .1 (not-false (c .before .before .before .before .before .before .before .shown-line .result .there) (c .before .before .before .before .before .if2 .left)))
 
 returns-5 : tie.Need-returns-5
-unfolding sessionFits tablesFit modeFits entryFits cursorHead _and_
+unfolding sessionFits tablesFit modeFits _and_
 returns-5 c = simp (via (c .before .before .before .before .before .before .before .before .before .before .before .shape-fits .ensures) (not-false _ (c .before .before .before .before .before .before .before .before .before .before .if1 .left)), via (c .before .before .before .before .before .before .before .shown-line .ensures .0) (not-false (c .before .before .before .before .before .before .before .shown-line .result .there) (c .before .before .before .before .before .if2 .left)), c .before .before .before .mode2 .given .1, c .entry-fits .ensures, c .before .before .before .before .before .before .before .shown-line .ensures .1 (not-false (c .before .before .before .before .before .before .before .shown-line .result .there) (c .before .before .before .before .before .if2 .left)))
 
 pub fits-spec : {M : Type 1} → statement M
