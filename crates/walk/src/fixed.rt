@@ -13,9 +13,9 @@ ghost use Rattle.cmf.specs.Limits.{mostFields};
 ghost use Rattle.cmf.specs.Layouts.{Component, integerAt, counterSettingsAt, counterAt, timeLongAt, timeShortAt, dateLongAt, dateShortAt, triggerAt};
 ghost use Rattle.walk.specs.Accept.{Held, Passes};
 use crate::claim::claim;
-use crate::components::switch_end;
 use crate::heads::word_in;
 use crate::stage::Stage;
+use crate::texts::switch_end;
 use field::settings::counted_cells;
 
 // How far the range of an integer's code goes above 0.

@@ -10,3 +10,4 @@ mod run;
 pub mod spot;
 pub mod stage;
 pub mod state;
+mod texts;

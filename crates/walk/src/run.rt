@@ -9,12 +9,12 @@ ghost use Rattle.cmf.specs.Layouts.{Aligned};
 ghost use Rattle.cmf.specs.Grammar.{passwordAt};
 ghost use Rattle.walk.specs.Accept.{Passes, Moves, Next};
 use crate::claim::claim_byte;
-use crate::components::option_end;
 use crate::heads::next_of;
 use crate::heads::plain_end;
 use crate::heads::word_in;
 use crate::spot::Spot;
 use crate::stage::Stage;
+use crate::texts::option_end;
 use cmf::image::Image;
 
 // The option at p with its byte in the sheet; in doubt no byte is marked.

@@ -5,8 +5,8 @@ use Rattle.laws.specs.Bytes.{byteAt}
 use Rattle.walk.proofs.Pieces.{option-is}
 use native.Mathlib.Omega.{arith}
 use borrow.Author.Needs.{needs}
-use Rattle.walk.proofs.components.option_end.Statement.{statement}
-use Rattle.walk.proofs.components.option_end.Tie as tie
+use Rattle.walk.proofs.texts.option_end.Statement.{statement}
+use Rattle.walk.proofs.texts.option_end.Tie as tie
 
 add-items : tie.Need-add-items
 add-items c = search needs

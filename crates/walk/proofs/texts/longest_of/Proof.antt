@@ -3,8 +3,8 @@ use Prim.Native.Nat.{_-_, _≤_}
 use borrow.Author.Needs.{needs}
 use Rattle.walk.proofs.Pieces.{Filling, filling-first, filling-next, filled}
 use native.Mathlib.Omega.{arith}
-use Rattle.walk.proofs.components.longest_of.Statement.{statement}
-use Rattle.walk.proofs.components.longest_of.Tie as tie
+use Rattle.walk.proofs.texts.longest_of.Statement.{statement}
+use Rattle.walk.proofs.texts.longest_of.Tie as tie
 
 abbrev Inv-loop : tie.InvT-loop
 Inv-loop image from end count first at₀ seen₀ most₀ at seen most = ((Filling image from end count at seen most) × (seen ≤ at)) × (most ≤ at)

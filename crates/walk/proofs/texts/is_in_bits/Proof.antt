@@ -2,8 +2,8 @@
 use borrow.Author.Tests.{eqb-true}
 use Rattle.walk.proofs.Marks.{low-bits}
 use borrow.Author.Needs.{needs}
-use Rattle.walk.proofs.components.is_in_bits.Statement.{statement}
-use Rattle.walk.proofs.components.is_in_bits.Tie as tie
+use Rattle.walk.proofs.texts.is_in_bits.Statement.{statement}
+use Rattle.walk.proofs.texts.is_in_bits.Tie as tie
 
 shr-result : tie.Need-shr-result
 shr-result c = search needs

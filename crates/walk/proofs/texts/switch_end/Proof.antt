@@ -5,8 +5,8 @@ use borrow.Author.Tests.{not-false}
 use Rattle.walk.proofs.Pieces.{switch-is}
 use native.Mathlib.Omega.{arith}
 use borrow.Author.Needs.{needs}
-use Rattle.walk.proofs.components.switch_end.Statement.{statement}
-use Rattle.walk.proofs.components.switch_end.Tie as tie
+use Rattle.walk.proofs.texts.switch_end.Statement.{statement}
+use Rattle.walk.proofs.texts.switch_end.Tie as tie
 
 add-if1 : tie.Need-add-if1
 add-if1 c = search needs

@@ -4,8 +4,8 @@ use mathlib.Core.Bool.{false≢true}
 use Rattle.walk.proofs.Pieces.{switch-good}
 use native.Mathlib.Omega.{arith}
 use borrow.Author.Needs.{needs}
-use Rattle.walk.proofs.components.switch_fits.Statement.{statement}
-use Rattle.walk.proofs.components.switch_fits.Tie as tie
+use Rattle.walk.proofs.texts.switch_fits.Statement.{statement}
+use Rattle.walk.proofs.texts.switch_fits.Tie as tie
 
 add-bits : tie.Need-add-bits
 add-bits c = search needs
