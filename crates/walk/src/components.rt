@@ -9,9 +9,8 @@ ghost use Rattle.cmf.specs.Readers.{evenFrom};
 ghost use Rattle.cmf.specs.Layouts.{Aligned, Component};
 ghost use Rattle.walk.specs.Accept.{Passes};
 use crate::check::is_padded;
-use crate::fixed::accept_known;
+use crate::fixed::accept_field;
 use crate::stage::Stage;
-use cmf::image::Image;
 
 // Where the constant string at a place ends; 0 in doubt.
 fn string_end(image: &[u8], at: usize) -> usize
@@ -26,17 +25,6 @@ fn string_end(image: &[u8], at: usize) -> usize
         return 0;
     }
     end
-}
-
-// A field, no option, if there may be one more.
-fn accept_field(image: &[u8], sheet: usize, p: usize, w: Stage, marks: &mut [u64]) -> Stage
-    requires { ⌜ (p < length (now image)) × (sheet ≤ 64 * length (now marks)) ⌝ }
-    ensures { λ r. ⌜ (r .good ≡ true → Passes (now (image .entry)) sheet p w r (now (marks .entry)) (now (marks .exit))) ⌝ }
-{
-    if Image::MAX_FIELDS <= w.fields {
-        return Stage::doubt();
-    }
-    accept_known(image, sheet, p, w, &mut *marks)
 }
 
 // The component at p, which is the first even place behind where the walk stands.

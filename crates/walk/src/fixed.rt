@@ -9,13 +9,13 @@ ghost use Rattle.field.specs.Formats.{formatOf, limitOf, numeralOf};
 ghost use Rattle.field.specs.Cells.{biased, spans, inRange};
 ghost use Rattle.field.specs.Settings.{stepFits, widthFits};
 ghost use Rattle.field.specs.declared.kind.Kind.the-variants.{Counter};
-ghost use Rattle.cmf.specs.Limits.{mostFields};
 ghost use Rattle.cmf.specs.Layouts.{Component, integerAt, counterSettingsAt, counterAt, timeLongAt, timeShortAt, dateLongAt, dateShortAt, triggerAt};
 ghost use Rattle.walk.specs.Accept.{Held, Passes};
 use crate::claim::claim;
 use crate::heads::word_in;
 use crate::stage::Stage;
 use crate::texts::switch_end;
+use cmf::image::Image;
 use field::settings::counted_cells;
 
 // How far the range of an integer's code goes above 0.
@@ -305,17 +305,20 @@ fn trigger_end(image: &[u8], at: usize) -> usize
     end
 }
 
-// A field, no option. A trigger has no bytes in the sheet to claim.
-pub(crate) fn accept_known(
+// A field, no option, if there may be one more. A trigger has no bytes in the sheet to claim.
+pub(crate) fn accept_field(
     image: &[u8],
     sheet: usize,
     p: usize,
     w: Stage,
     marks: &mut [u64],
 ) -> Stage
-    requires { ⌜ (p < length (now image)) × (w .fields < mostFields) × (sheet ≤ 64 * length (now marks)) ⌝ }
+    requires { ⌜ (p < length (now image)) × (sheet ≤ 64 * length (now marks)) ⌝ }
     ensures { λ r. ⌜ (r .good ≡ true → Passes (now (image .entry)) sheet p w r (now (marks .entry)) (now (marks .exit))) ⌝ }
 {
+    if Image::MAX_FIELDS <= w.fields {
+        return Stage::doubt();
+    }
     if image[p] % 32 == 0x17 {
         let end = trigger_end(image, p);
         return Stage {
