@@ -10,7 +10,7 @@ use Rattle.laws.proofs.Cases.{if-true, if-false}
 use Rattle.field.specs.Table.{profileOf}
 use Rattle.field.specs.declared.record.Field.{Field}
 use Rattle.cmf.specs.Limits.{mostFields, longestSheet}
-use Rattle.cmf.specs.Readers.{evenFrom, oddFrom, componentAt}
+use Rattle.cmf.specs.Readers.{evenFrom, componentAt}
 use Rattle.cmf.specs.Places.{componentsFrom}
 use Rattle.cmf.specs.Layouts.{Aligned, Component, optionAt, lastBit}
 use Rattle.cmf.proofs.Agreement.{Agree}
@@ -80,9 +80,6 @@ module _ (im : List ℕ) where
   -- padding before a place, as the grammar has it
   pub even-place : (at p : ℕ) → p ≡ evenFrom at → p < length im → padded im at p ≡ true → Aligned im 0 at p
   even-place at p e i z = A .even-aligned at p (record { stands = e; zeroed = padded-reads im at p z }) i
-
-  pub odd-place : (at p : ℕ) → p ≡ oddFrom at → p < length im → padded im at p ≡ true → Aligned im 1 at p
-  odd-place at p e i z = A .odd-aligned at p (record { stands = e; zeroed = padded-reads im at p z }) i
 
   -- ---- the components of a line: those that are left, done to a state that stands, are the whole
 

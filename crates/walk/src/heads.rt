@@ -7,7 +7,6 @@ ghost use Rattle.laws.specs.Bytes.{wordAt};
 ghost use Rattle.cmf.specs.Layouts.{Aligned, Text};
 ghost use Rattle.cmf.specs.Grammar.{Digits, Head, isLast, passwordAt, hasSubmenu, nextLine, submenuTable};
 ghost use Rattle.walk.specs.Accept.{Linked, Placed};
-use crate::check::is_padded;
 use crate::stage::Stage;
 use cmf::image::Image;
 use cmf::text::password_fits;
@@ -141,12 +140,8 @@ pub(crate) fn accept_head(image: &[u8], n: usize, before: usize, p: usize, w: St
     if Image::MAX_LINES <= w.lines {
         return 0;
     }
-    let at = w.at;
-    if p != at + (1 - at % 2) {
-        return 0;
-    }
-    let zero = is_padded(image, at, p);
-    if !zero {
+    let placed = is_odd_from(image, w.at, p);
+    if !placed {
         return 0;
     }
     any_end(image, n, before, p)
