@@ -6,8 +6,8 @@ use mathlib.Core.Bool.{true, false}
 use mathlib.Core.Logic.{_⊎_, inl, inr}
 use mathlib.Core.List.{List, [], _∷_, _++_, List·Memᴰ, List·Memᴰ·head, List·Memᴰ·cases-cons, List·Memᴰ·eq-of-singleton, Memᴰ·append-left, Memᴰ·append-right}
 use native.Mathlib.Omega.{arith}
-use lib.ListN.{length, getD}
-use Rattle.laws.proofs.Cases.{by-test, if-true, if-false}
+use lib.ListN.{length}
+use Rattle.laws.proofs.Cases.{if-true}
 use Rattle.field.specs.declared.record.Field.{Field}
 use Rattle.cmf.specs.Limits.{deepestTable, mostLinesOfTable, prologBytes}
 use Rattle.cmf.specs.Readers.{evenFrom, titleAt, headAt, componentAt}
@@ -19,24 +19,6 @@ use Rattle.walk.proofs.Stood.{clash}
 use Rattle.walk.proofs.Parts.{places-last, places-more, last-true, last-false, no-turns, turn}
 use Rattle.walk.proofs.Line.{head-reads, last-marked, more-marked, plain-marked}
 use Rattle.walk.proofs.Tables.{lines-last, lines-more, line-reads, first-line}
-
--- ---- lines by number
-
--- the lines one by one are those of the list
-pub line-nth-from : (im : List ℕ) (j k p : ℕ) → k < length (linesFrom im j p) → getD (linesFrom im j p) k 0 ≡ lineFrom im k p
-unfolding linesFrom lineFrom
-line-nth-from im zero k p h = absurd (omega arith)
-line-nth-from im (suc j) zero p h = refl
-line-nth-from im (suc j) (suc k) p h =
-    by-test (headAt im p .last)
-    (λ e. let l = rw (if-true [] (linesFrom im j (headAt im p .next)) e) at h in absurd (omega arith))
-    (λ e. rw (if-false [] (linesFrom im j (headAt im p .next)) e)
-    (line-nth-from im j k (headAt im p .next) (let l = rw (if-false [] (linesFrom im j (headAt im p .next)) e) at h in omega arith)))
-
--- line k of a table is element k of its list
-pub line-nth : (im : List ℕ) (t k : ℕ) → k < lineCount im t → getD (linesOf im t) k 0 ≡ lineAt im t k
-unfolding lineCount linesOf lineAt
-line-nth im t k h = line-nth-from im (mostLinesOfTable + 1) k (titleAt im t .line) h
 
 -- every place has a line, were it a table's
 pub some-line : (im : List ℕ) (t : ℕ) → 1 ≤ lineCount im t
