@@ -14,7 +14,7 @@ use Rattle.field.specs.Settings.{settingsFit}
 use Rattle.field.specs.declared.kind.Kind.the-variants.{Option}
 use Rattle.cmf.specs.Limits.{prologBytes}
 use Rattle.cmf.specs.Layouts.{bit, Text, Texts, Component, switchAt, optionAt}
-use Rattle.cmf.specs.Grammar.{Head, Password, Digits, isFirst, isLast, isDynamic, hasSubmenu, previousAt, passwordAt, submenuTable}
+use Rattle.cmf.specs.Grammar.{Head, Password, Digits, isFirst, isLast, isDynamic, hasSubmenu, previousAt, submenuAt, passwordAt, submenuTable}
 use Rattle.field.proofs.Fitting.{four-bytes, switch-fits}
 use Rattle.cmf.proofs.Usual.{one-byte, option-good}
 use Rattle.walk.specs.Accept.{Linked}
@@ -122,9 +122,9 @@ module _ (im : List ℕ) where
         previous = λ _. rw (q .0) v;
       }
 
-  -- where a submenu's table stands
-  pub submenu-is : (p : ℕ) → prologBytes + wordAt im (p + 1 + 2 * (1 - byteAt im p / 2 % 2) + 2 * (1 - byteAt im p % 2) + 2 * (byteAt im p / 4 % 2)) ≡ submenuTable im p
-  submenu-is p = let z : byteAt im p % 2 ≡ isFirst im p = omega arith in rw z
+  -- where a submenu's table stands: its pointer is the last of the options
+  pub submenu-is : (p : ℕ) → hasSubmenu im p ≡ 1 → prologBytes + wordAt im (passwordAt im p - 2) ≡ submenuTable im p
+  submenu-is p e = let z : passwordAt im p - 2 ≡ submenuAt im p = omega arith in rw z refl
 
   -- ---- a head by its tag
 

@@ -147,14 +147,12 @@ pub(crate) fn accept_head(image: &[u8], n: usize, before: usize, p: usize, w: St
     any_end(image, n, before, p)
 }
 
-// The place of the table below the line at p.
+// The place of the table below the line at p: its pointer is the last of the options.
 pub(crate) fn submenu_of(image: &[u8], p: usize) -> usize
     requires { ⌜ (passwordAt (now image) p ≤ length (now image)) × (hasSubmenu (now image) p ≡ 1) ⌝ }
     ensures { λ r. ⌜ r ≡ submenuTable (now (image .entry)) p ⌝ }
 {
-    let tag = image[p] as usize;
-    let at = p + 1 + 2 * (1 - tag / 2 % 2) + 2 * (1 - tag % 2) + 2 * (tag / 4 % 2);
-    Image::PROLOG + word_in(image, at)
+    Image::PROLOG + word_in(image, options_end(image, p) - 2)
 }
 
 // The place of the line behind the one at p, which is not the last.
