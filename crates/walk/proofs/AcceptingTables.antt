@@ -106,10 +106,10 @@ module _ (im : List ℕ) (sheet : ℕ) where
     going-start u m = record { go = λ s h t. record { here = s; stands = t; rest = refl } }
 
     module _ {u : Stage} {old : List ℕ} {n before p : ℕ} {v w : Stage} {mid new : List ℕ} (few : n < mostLinesOfTable) (z : headAt im p .refusal ≡ 0) (c : Reaches sheet (line below n before p) v w mid new) (g : AmongLines im sheet below first u old n before p v mid) where
-      one-more : 100 - n ≡ suc (99 - n)
+      one-more : mostLinesOfTable + 1 - n ≡ suc (mostLinesOfTable - n)
       one-more = omega arith
 
-      rest-of : 100 - (n + 1) ≡ 99 - n
+      rest-of : mostLinesOfTable + 1 - (n + 1) ≡ mostLinesOfTable - n
       rest-of = omega arith
 
       pub going-more : isLast im p ≡ 0 → AmongLines im sheet below first u old (n + 1) p (nextLine im p) w new
@@ -123,24 +123,24 @@ module _ (im : List ℕ) (sheet : ℕ) where
               stands = k;
               rest =
                   o .rest
-                  ∙ rw (one-more, rest-of, lines-more im (99 - n) p (more-marked im A (A .head-reads p z) b), A .head-reads p z .next) (stands-then _ k);
+                  ∙ rw (one-more, rest-of, lines-more im (mostLinesOfTable - n) p (more-marked im A (A .head-reads p z) b), A .head-reads p z .next) (stands-then _ k);
             };
       }
 
-      pub going-last : isLast im p ≡ 1 → Reaches sheet (lines 0 0 (linesFrom im 100 first)) u w old new
+      pub going-last : isLast im p ≡ 1 → Reaches sheet (lines 0 0 (linesFrom im (mostLinesOfTable + 1) first)) u w old new
       unfolding onLines
       going-last b = record {
         reach = λ s h t.
             let o = g .go s h t in
             let k = c .reach (o .here) h (o .stands) in
-            rw (o .rest, one-more, lines-last im (99 - n) p (last-marked im A (A .head-reads p z) b), stands-then (line below n before p (o .here)) k) k;
+            rw (o .rest, one-more, lines-last im (mostLinesOfTable - n) p (last-marked im A (A .head-reads p z) b), stands-then (line below n before p (o .here)) k) k;
       }
 
   -- ---- a table
 
   pub table-reaches :
       (t : ℕ) {left below : ℕ} {title : read-title.Title} {w r : Stage} {old new : List ℕ} → left ≡ suc below → title ≡ titleAt im t → title .refusal ≡ 0 →
-      Reaches sheet (lines below (title .line) 0 0 (linesFrom im 100 (title .line))) (titled w (title .end)) r old new →
+      Reaches sheet (lines below (title .line) 0 0 (linesFrom im (mostLinesOfTable + 1) (title .line))) (titled w (title .end)) r old new →
       Reaches sheet (table left t) w r old new
   unfolding onTable linesOf
   table-reaches t {left} {below} {title} {w} e f z c = record {
@@ -150,7 +150,7 @@ module _ (im : List ℕ) (sheet : ℕ) where
         stands-at (onTitle im sheet mostFields t s) (titleAt im t .end) (w .lines) (s .fields)
         (ap (onTitle im sheet mostFields t) (k .is) ∙ title-goes im A sheet mostFields t (w .at) (w .lines) (s .fields) q) (ap (λ (x : read-title.Title). x .end) (sym f)) refl
         (k .count) (k .covers) in
-        rw (e, ← f, stands-then (onLines im sheet mostFields (onTable im sheet mostFields below) 0 0 (linesFrom im 100 (title .line)) (onTitle im sheet mostFields t s)) o)
+        rw (e, ← f, stands-then (onLines im sheet mostFields (onTable im sheet mostFields below) 0 0 (linesFrom im (mostLinesOfTable + 1) (title .line)) (onTitle im sheet mostFields t s)) o)
         (c .reach (onTitle im sheet mostFields t s) h o);
   }
 

@@ -68,7 +68,7 @@ module _ (im : List ℕ) (sheet : ℕ) where
         before = o .before;
         end = o .end;
         from = o .from;
-        then = o .then;
+        marks = o .marks;
         few = o .few;
         lines = o .lines;
         head = o .head;
@@ -89,7 +89,7 @@ module _ (im : List ℕ) (sheet : ℕ) where
       before = line;
       end = r .stage .at;
       from = w;
-      then = m;
+      marks = m;
       few = k .few;
       lines =
           rw (k .counted, k .there)
@@ -110,7 +110,7 @@ module _ (im : List ℕ) (sheet : ℕ) where
     before = before;
     end = end;
     from = v;
-    then = m;
+    marks = m;
     few = few;
     lines = g;
     head = q;
@@ -136,5 +136,5 @@ module _ (im : List ℕ) (sheet : ℕ) where
     pub lines-more : isLast im (s .line) ≡ 0 → AmongLines im sheet below first u old (s .n + 1) (s .line) (nextLine im (s .line)) w new
     lines-more z = tables.going-more im sheet below first (o .few) read (l .leave (o .few) (o .head) (o .through d)) (o .lines) z
 
-    pub lines-last : isLast im (s .line) ≡ 1 → Reaches sheet (tables.lines im sheet below first 0 0 (linesFrom im 100 first)) u w old new
+    pub lines-last : isLast im (s .line) ≡ 1 → Reaches sheet (tables.lines im sheet below first 0 0 (linesFrom im (mostLinesOfTable + 1) first)) u w old new
     lines-last z = tables.going-last im sheet below first (o .few) read (l .leave (o .few) (o .head) (o .through d)) (o .lines) z

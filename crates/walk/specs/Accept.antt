@@ -98,8 +98,8 @@ pub record LinesLeft (im : List ℕ) (sheet below first : ℕ) (s : State) (n be
   pub here : State
   pub stands : Stands v m here
   pub rest :
-      onLines im sheet mostFields (onTable im sheet mostFields below) 0 0 (linesFrom im 100 first) s
-      ≡ onLines im sheet mostFields (onTable im sheet mostFields below) n before (linesFrom im (100 - n) p) here
+      onLines im sheet mostFields (onTable im sheet mostFields below) 0 0 (linesFrom im (mostLinesOfTable + 1) first) s
+      ≡ onLines im sheet mostFields (onTable im sheet mostFields below) n before (linesFrom im (mostLinesOfTable + 1 - n) p) here
 
 -- and so it is from every state
 pub record AmongLines (im : List ℕ) (sheet below first : ℕ) (u : Stage) (old : List ℕ) (n before p : ℕ) (v : Stage) (new : List ℕ) : Type 0 where
@@ -110,12 +110,12 @@ pub record Along (im : List ℕ) (sheet below first : ℕ) (u : Stage) (old : Li
   pub before : ℕ
   pub end : ℕ
   pub from : Stage
-  pub then : List ℕ
+  pub marks : List ℕ
   pub few : s .n < mostLinesOfTable
-  pub lines : AmongLines im sheet below first u old (s .n) before (s .line) from then
+  pub lines : AmongLines im sheet below first u old (s .n) before (s .line) from marks
   pub head : Placed im (s .n) before (s .line) from end
-  pub within : s .done ≡ false → AmongParts im sheet (headed from end) (s .stage) then new
-  pub through : s .done ≡ true → Reaches sheet (onComponents im sheet mostFields (componentsFrom im (length im + 1) (evenFrom end))) (headed from end) (s .stage) then new
+  pub within : s .done ≡ false → AmongParts im sheet (headed from end) (s .stage) marks new
+  pub through : s .done ≡ true → Reaches sheet (onComponents im sheet mostFields (componentsFrom im (length im + 1) (evenFrom end))) (headed from end) (s .stage) marks new
 
 -- from one spot to another, in whatever table they are
 pub record Moves (im : List ℕ) (sheet : ℕ) (s r : Spot) (old new : List ℕ) : Type 0 where
