@@ -16,16 +16,13 @@ use Rattle.cmf.proofs.Agreement.{Agree, HeadReads}
 use Rattle.cmf.proofs.Agreeing.{agree}
 use Rattle.walk.specs.declared.stage.Stage.{Stage}
 use Rattle.walk.specs.Check.{State, onComponents, onHead, onTitle, onSubmenu, onBody, onLine, onLines, onTable, start, walked, prologCode, checked, refusalOf}
-use Rattle.walk.specs.Accept.{Placed, Covers, Stands, Reaches, headed, AmongLines}
+use Rattle.walk.specs.Accept.{Placed, Covers, Stands, Reaches, titled, headed, AmongLines}
 use Rattle.walk.proofs.Steps.{title-goes, head-goes}
 use Rattle.walk.proofs.Line.{last-marked, more-marked, submenu-marked, plain-marked}
 use Rattle.walk.proofs.Tables.{lines-last, lines-more}
 use Rattle.walk.proofs.Accepting.{stands-then, stands-at}
 
--- the stage behind a title, and behind a submenu
-abbrev pub titled : Stage → ℕ → Stage
-titled w end = record { good = true; at = end; lines = w .lines; fields = w .fields }
-
+-- the stage behind a submenu
 abbrev pub returned : Stage → Stage → Stage
 returned body t = record { good = t .good; at = body .at; lines = t .lines; fields = t .fields }
 
@@ -139,11 +136,11 @@ module _ (im : List ℕ) (sheet : ℕ) where
   -- ---- a table
 
   pub table-reaches :
-      (t : ℕ) {left below : ℕ} {title : read-title.Title} {w r : Stage} {old new : List ℕ} → left ≡ suc below → title ≡ titleAt im t → title .refusal ≡ 0 →
-      Reaches sheet (lines below (title .line) 0 0 (linesFrom im (mostLinesOfTable + 1) (title .line))) (titled w (title .end)) r old new →
+      (t : ℕ) {left below : ℕ} {title : read-title.Title} {v w r : Stage} {old new : List ℕ} → left ≡ suc below → title ≡ titleAt im t → title .refusal ≡ 0 →
+      v ≡ titled w (title .end) → Reaches sheet (lines below (title .line) 0 0 (linesFrom im (mostLinesOfTable + 1) (title .line))) v r old new →
       Reaches sheet (table left t) w r old new
   unfolding onTable linesOf
-  table-reaches t {left} {below} {title} {w} e f z c = record {
+  table-reaches t {left} {below} {title} {w = w} e f z b c = record {
     reach = λ s h k.
         let q : titleAt im t .refusal ≡ 0 = rw f at z in
         let o =
@@ -151,7 +148,7 @@ module _ (im : List ℕ) (sheet : ℕ) where
         (ap (onTitle im sheet mostFields t) (k .is) ∙ title-goes im A sheet mostFields t (w .at) (w .lines) (s .fields) q) (ap (λ (x : read-title.Title). x .end) (sym f)) refl
         (k .count) (k .covers) in
         rw (e, ← f, stands-then (onLines im sheet mostFields (onTable im sheet mostFields below) 0 0 (linesFrom im (mostLinesOfTable + 1) (title .line)) (onTitle im sheet mostFields t s)) o)
-        (c .reach (onTitle im sheet mostFields t s) h o);
+        ((rw b at c) .reach (onTitle im sheet mostFields t s) h o);
   }
 
   -- ---- the whole image

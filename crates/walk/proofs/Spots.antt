@@ -104,19 +104,21 @@ module _ (im : List ℕ) (sheet : ℕ) where
   -- ---- a line by its head, and with its submenu
 
   pub along-head :
-      {below first n before p end : ℕ} {u v : Stage} {old m : List ℕ} → n < mostLinesOfTable → Placed im n before p v end → AmongLines im sheet below first u old n before p v m →
-      Along im sheet below first u old (spot (headed v end) n p false) m
-  along-head {before = before} {end = end} {v = v} {m = m} few q g = record {
-    before = before;
-    end = end;
-    from = v;
-    marks = m;
-    few = few;
-    lines = g;
-    head = q;
-    within = λ _. parts.going-start im sheet (headed v end) m;
-    through = λ e. clash e refl;
-  }
+      {below first n before p end : ℕ} {u v : Stage} {s : Spot} {old m : List ℕ} → s ≡ spot (headed v end) n p false → n < mostLinesOfTable → Placed im n before p v end →
+      AmongLines im sheet below first u old n before p v m → Along im sheet below first u old s m
+  along-head {before = before} {end = end} {v = v} {m = m} e few q g =
+      rw e
+      (record {
+        before = before;
+        end = end;
+        from = v;
+        marks = m;
+        few = few;
+        lines = g;
+        head = q;
+        within = λ _. parts.going-start im sheet (headed v end) m;
+        through = λ e. clash e refl;
+      })
 
   pub leaves-plain : {below line : ℕ} {w : Stage} {m : List ℕ} → hasSubmenu im line ≡ 0 → Leaves im sheet below line w w m m
   leaves-plain {below} z = record { leave = λ few q c. tables.plain-line im sheet few q c below z }

@@ -77,7 +77,11 @@ pub record Stands (w : Stage) (marks : List ℕ) (s : State) : Type 0 where
 pub record Reaches (sheet : ℕ) (stretch : State → State) (v w : Stage) (old new : List ℕ) : Type 0 where
   pub reach : (s : State) → sheet ≤ longestSheet → Stands v old s → Stands w new (stretch s)
 
--- the stage behind a head that ends at a place
+-- the stage behind a title that ends at a place
+abbrev pub titled : Stage → ℕ → Stage
+titled w end = record { good = true; at = end; lines = w .lines; fields = w .fields }
+
+-- and behind a head
 abbrev pub headed : Stage → ℕ → Stage
 headed w end = record { good = true; at = end; lines = w .lines + 1; fields = w .fields }
 

@@ -117,12 +117,7 @@ fn accept_table(
         return Stage::doubt();
     }
     let below = left - 1;
-    let mut v = Stage {
-        good: true,
-        at: title.end,
-        lines: w.lines,
-        fields: w.fields,
-    };
+    let mut v = w.titled(title.end);
     let mut n = 0;
     let mut before = 0;
     let mut p = title.line;
@@ -131,17 +126,7 @@ fn accept_table(
         if end == 0 {
             return Stage::doubt();
         }
-        let head = Spot {
-            stage: Stage {
-                good: true,
-                at: end,
-                lines: v.lines + 1,
-                fields: v.fields,
-            },
-            n,
-            line: p,
-            done: false,
-        };
+        let head = Spot::headed(v, n, p, end);
         let s = pass_lines(image, sheet, head, &mut *marks);
         if !s.stage.good {
             return s.stage;

@@ -22,7 +22,9 @@ use Rattle.walk.proofs.accept.pass_lines.Reads as pass-lines-reads
 use Rattle.walk.proofs.heads.accept_head.Reads as accept-head-reads
 use Rattle.walk.proofs.heads.next_of.Reads as next-of-reads
 use Rattle.walk.proofs.heads.submenu_of.Reads as submenu-of-reads
+use Rattle.walk.proofs.spot.Spot.headed.Reads as headed-reads
 use Rattle.walk.proofs.stage.Stage.doubt.Reads as doubt-reads
+use Rattle.walk.proofs.stage.Stage.titled.Reads as titled-reads
 use Rattle.walk.proofs.accept.+accept_submenu+accept_table.{statement}
 use Rattle.walk.proofs.accept.+accept_submenu+accept_table.Tie.{close}
 
@@ -119,8 +121,12 @@ accept-table-read-title-requires : (t : ℕ) → accept-table-lts.Need-read-titl
   read-title-reads.Learnt,
   doubt-reads.Asked,
   doubt-reads.Learnt,
+  titled-reads.Asked,
+  titled-reads.Learnt,
   accept-head-reads.Asked,
   accept-head-reads.Learnt,
+  headed-reads.Asked,
+  headed-reads.Learnt,
   pass-lines-reads.Asked,
   pass-lines-reads.Learnt,
   accept-submenu-below t,
@@ -135,8 +141,12 @@ accept-table-doubt-requires : (t : ℕ) → accept-table-lts.Need-doubt-requires
   read-title-reads.Learnt,
   doubt-reads.Asked,
   doubt-reads.Learnt,
+  titled-reads.Asked,
+  titled-reads.Learnt,
   accept-head-reads.Asked,
   accept-head-reads.Learnt,
+  headed-reads.Asked,
+  headed-reads.Learnt,
   pass-lines-reads.Asked,
   pass-lines-reads.Learnt,
   accept-submenu-below t,
@@ -151,8 +161,12 @@ accept-table-returns : (t : ℕ) → accept-table-lts.Need-returns (
   read-title-reads.Learnt,
   doubt-reads.Asked,
   doubt-reads.Learnt,
+  titled-reads.Asked,
+  titled-reads.Learnt,
   accept-head-reads.Asked,
   accept-head-reads.Learnt,
+  headed-reads.Asked,
+  headed-reads.Learnt,
   pass-lines-reads.Asked,
   pass-lines-reads.Learnt,
   accept-submenu-below t,
@@ -167,8 +181,12 @@ accept-table-doubt-requires-2 : (t : ℕ) → accept-table-lts.Need-doubt-requir
   read-title-reads.Learnt,
   doubt-reads.Asked,
   doubt-reads.Learnt,
+  titled-reads.Asked,
+  titled-reads.Learnt,
   accept-head-reads.Asked,
   accept-head-reads.Learnt,
+  headed-reads.Asked,
+  headed-reads.Learnt,
   pass-lines-reads.Asked,
   pass-lines-reads.Learnt,
   accept-submenu-below t,
@@ -183,8 +201,12 @@ accept-table-returns-2 : (t : ℕ) → accept-table-lts.Need-returns-2 (
   read-title-reads.Learnt,
   doubt-reads.Asked,
   doubt-reads.Learnt,
+  titled-reads.Asked,
+  titled-reads.Learnt,
   accept-head-reads.Asked,
   accept-head-reads.Learnt,
+  headed-reads.Asked,
+  headed-reads.Learnt,
   pass-lines-reads.Asked,
   pass-lines-reads.Learnt,
   accept-submenu-below t,
@@ -199,8 +221,12 @@ accept-table-sub-below : (t : ℕ) → accept-table-lts.Need-sub-below (
   read-title-reads.Learnt,
   doubt-reads.Asked,
   doubt-reads.Learnt,
+  titled-reads.Asked,
+  titled-reads.Learnt,
   accept-head-reads.Asked,
   accept-head-reads.Learnt,
+  headed-reads.Asked,
+  headed-reads.Learnt,
   pass-lines-reads.Asked,
   pass-lines-reads.Learnt,
   accept-submenu-below t,
@@ -210,13 +236,37 @@ accept-table-sub-below : (t : ℕ) → accept-table-lts.Need-sub-below (
 ) (accept-table-at t) accept-table.Post accept-table-Inv-loop accept-table-μ-loop
 accept-table-sub-below t c = omega arith
 
+accept-table-titled-requires : (t : ℕ) → accept-table-lts.Need-titled-requires (
+  read-title-reads.Asked,
+  read-title-reads.Learnt,
+  doubt-reads.Asked,
+  doubt-reads.Learnt,
+  titled-reads.Asked,
+  titled-reads.Learnt,
+  accept-head-reads.Asked,
+  accept-head-reads.Learnt,
+  headed-reads.Asked,
+  headed-reads.Learnt,
+  pass-lines-reads.Asked,
+  pass-lines-reads.Learnt,
+  accept-submenu-below t,
+  accept-submenu.Post,
+  next-of-reads.Asked,
+  next-of-reads.Learnt,
+) (accept-table-at t) accept-table.Post accept-table-Inv-loop accept-table-μ-loop
+accept-table-titled-requires t c κs = search needs
+
 accept-table-loop-holds : (t : ℕ) → accept-table-lts.Need-loop-holds (
   read-title-reads.Asked,
   read-title-reads.Learnt,
   doubt-reads.Asked,
   doubt-reads.Learnt,
+  titled-reads.Asked,
+  titled-reads.Learnt,
   accept-head-reads.Asked,
   accept-head-reads.Learnt,
+  headed-reads.Asked,
+  headed-reads.Learnt,
   pass-lines-reads.Asked,
   pass-lines-reads.Learnt,
   accept-submenu-below t,
@@ -231,8 +281,12 @@ accept-table-accept-head-requires : (t : ℕ) → accept-table-lts.Need-accept-h
   read-title-reads.Learnt,
   doubt-reads.Asked,
   doubt-reads.Learnt,
+  titled-reads.Asked,
+  titled-reads.Learnt,
   accept-head-reads.Asked,
   accept-head-reads.Learnt,
+  headed-reads.Asked,
+  headed-reads.Learnt,
   pass-lines-reads.Asked,
   pass-lines-reads.Learnt,
   accept-submenu-below t,
@@ -247,8 +301,12 @@ accept-table-doubt-requires-3 : (t : ℕ) → accept-table-lts.Need-doubt-requir
   read-title-reads.Learnt,
   doubt-reads.Asked,
   doubt-reads.Learnt,
+  titled-reads.Asked,
+  titled-reads.Learnt,
   accept-head-reads.Asked,
   accept-head-reads.Learnt,
+  headed-reads.Asked,
+  headed-reads.Learnt,
   pass-lines-reads.Asked,
   pass-lines-reads.Learnt,
   accept-submenu-below t,
@@ -263,8 +321,12 @@ accept-table-same-length : (t : ℕ) → accept-table-lts.Need-same-length (
   read-title-reads.Learnt,
   doubt-reads.Asked,
   doubt-reads.Learnt,
+  titled-reads.Asked,
+  titled-reads.Learnt,
   accept-head-reads.Asked,
   accept-head-reads.Learnt,
+  headed-reads.Asked,
+  headed-reads.Learnt,
   pass-lines-reads.Asked,
   pass-lines-reads.Learnt,
   accept-submenu-below t,
@@ -279,8 +341,12 @@ accept-table-returns-3 : (t : ℕ) → accept-table-lts.Need-returns-3 (
   read-title-reads.Learnt,
   doubt-reads.Asked,
   doubt-reads.Learnt,
+  titled-reads.Asked,
+  titled-reads.Learnt,
   accept-head-reads.Asked,
   accept-head-reads.Learnt,
+  headed-reads.Asked,
+  headed-reads.Learnt,
   pass-lines-reads.Asked,
   pass-lines-reads.Learnt,
   accept-submenu-below t,
@@ -290,13 +356,17 @@ accept-table-returns-3 : (t : ℕ) → accept-table-lts.Need-returns-3 (
 ) (accept-table-at t) accept-table.Post accept-table-Inv-loop accept-table-μ-loop
 accept-table-returns-3 t c = λ e. clash e (c .doubt3 .ensures)
 
-accept-table-add-t19 : (t : ℕ) → accept-table-lts.Need-add-t19 (
+accept-table-headed-requires : (t : ℕ) → accept-table-lts.Need-headed-requires (
   read-title-reads.Asked,
   read-title-reads.Learnt,
   doubt-reads.Asked,
   doubt-reads.Learnt,
+  titled-reads.Asked,
+  titled-reads.Learnt,
   accept-head-reads.Asked,
   accept-head-reads.Learnt,
+  headed-reads.Asked,
+  headed-reads.Learnt,
   pass-lines-reads.Asked,
   pass-lines-reads.Learnt,
   accept-submenu-below t,
@@ -304,15 +374,19 @@ accept-table-add-t19 : (t : ℕ) → accept-table-lts.Need-add-t19 (
   next-of-reads.Asked,
   next-of-reads.Learnt,
 ) (accept-table-at t) accept-table.Post accept-table-Inv-loop accept-table-μ-loop
-accept-table-add-t19 t c = omega (arith, c .before .before .accept-head .ensures (omega arith) .room)
+accept-table-headed-requires t c κs = c .before .accept-head .ensures (omega arith) .room
 
 accept-table-pass-lines-requires : (t : ℕ) → accept-table-lts.Need-pass-lines-requires (
   read-title-reads.Asked,
   read-title-reads.Learnt,
   doubt-reads.Asked,
   doubt-reads.Learnt,
+  titled-reads.Asked,
+  titled-reads.Learnt,
   accept-head-reads.Asked,
   accept-head-reads.Learnt,
+  headed-reads.Asked,
+  headed-reads.Learnt,
   pass-lines-reads.Asked,
   pass-lines-reads.Learnt,
   accept-submenu-below t,
@@ -320,15 +394,19 @@ accept-table-pass-lines-requires : (t : ℕ) → accept-table-lts.Need-pass-line
   next-of-reads.Asked,
   next-of-reads.Learnt,
 ) (accept-table-at t) accept-table.Post accept-table-Inv-loop accept-table-μ-loop
-accept-table-pass-lines-requires t c κs = (refl, c .before .before .before .accept-head .ensures (omega arith) .head .inside, head-fits _ (c .before .before .before .before .before .before .before .before .before .before .before .before .args .sheet) (c .before .before .before .accept-head .ensures (omega arith) .head), omega (arith, c .before .before .before .before .before .loop .inv .0 .1, c .before .before .before .before .before .before .before .before .before .before .before .before .pre .1))
+accept-table-pass-lines-requires t c κs = rw (c .before .headed .ensures) (refl, c .before .before .before .accept-head .ensures (omega arith) .head .inside, head-fits _ (c .before .before .before .before .before .before .before .before .before .before .before .before .before .args .sheet) (c .before .before .before .accept-head .ensures (omega arith) .head), omega (arith, c .before .before .before .before .before .loop .inv .0 .1, c .before .before .before .before .before .before .before .before .before .before .before .before .before .pre .1))
 
 accept-table-same-length-2 : (t : ℕ) → accept-table-lts.Need-same-length-2 (
   read-title-reads.Asked,
   read-title-reads.Learnt,
   doubt-reads.Asked,
   doubt-reads.Learnt,
+  titled-reads.Asked,
+  titled-reads.Learnt,
   accept-head-reads.Asked,
   accept-head-reads.Learnt,
+  headed-reads.Asked,
+  headed-reads.Learnt,
   pass-lines-reads.Asked,
   pass-lines-reads.Learnt,
   accept-submenu-below t,
@@ -343,8 +421,12 @@ accept-table-returns-4 : (t : ℕ) → accept-table-lts.Need-returns-4 (
   read-title-reads.Learnt,
   doubt-reads.Asked,
   doubt-reads.Learnt,
+  titled-reads.Asked,
+  titled-reads.Learnt,
   accept-head-reads.Asked,
   accept-head-reads.Learnt,
+  headed-reads.Asked,
+  headed-reads.Learnt,
   pass-lines-reads.Asked,
   pass-lines-reads.Learnt,
   accept-submenu-below t,
@@ -359,8 +441,12 @@ accept-table-accept-submenu-requires : (t : ℕ) → accept-table-lts.Need-accep
   read-title-reads.Learnt,
   doubt-reads.Asked,
   doubt-reads.Learnt,
+  titled-reads.Asked,
+  titled-reads.Learnt,
   accept-head-reads.Asked,
   accept-head-reads.Learnt,
+  headed-reads.Asked,
+  headed-reads.Learnt,
   pass-lines-reads.Asked,
   pass-lines-reads.Learnt,
   accept-submenu-below t,
@@ -368,15 +454,19 @@ accept-table-accept-submenu-requires : (t : ℕ) → accept-table-lts.Need-accep
   next-of-reads.Asked,
   next-of-reads.Learnt,
 ) (accept-table-at t) accept-table.Post accept-table-Inv-loop accept-table-μ-loop
-accept-table-accept-submenu-requires t c κs = (omega (arith, c .before .before .before .before .before .before .before .before .before .before .before .before .before .before .before .before .before .before .pre .0), ((c .before .before .before .before .before .pass-lines .ensures (not-false _ (c .before .if4 .left))) .1 .inside, omega (arith, c .before .before .before .before .before .pass-lines .kept .1 .1 .1 .0 ∙ c .before .before .before .before .before .before .before .before .before .before .before .loop .inv .0 .1, c .before .before .before .before .before .before .before .before .before .before .before .before .before .before .before .before .before .before .pre .1)))
+accept-table-accept-submenu-requires t c κs = (omega (arith, c .before .before .before .before .before .before .before .before .before .before .before .before .before .before .before .before .before .before .before .pre .0), ((c .before .before .before .before .before .pass-lines .ensures (not-false _ (c .before .if4 .left))) .1 .inside, omega (arith, c .before .before .before .before .before .pass-lines .kept .1 .1 .1 .0 ∙ c .before .before .before .before .before .before .before .before .before .before .before .loop .inv .0 .1, c .before .before .before .before .before .before .before .before .before .before .before .before .before .before .before .before .before .before .before .pre .1)))
 
 accept-table-same-length-3 : (t : ℕ) → accept-table-lts.Need-same-length-3 (
   read-title-reads.Asked,
   read-title-reads.Learnt,
   doubt-reads.Asked,
   doubt-reads.Learnt,
+  titled-reads.Asked,
+  titled-reads.Learnt,
   accept-head-reads.Asked,
   accept-head-reads.Learnt,
+  headed-reads.Asked,
+  headed-reads.Learnt,
   pass-lines-reads.Asked,
   pass-lines-reads.Learnt,
   accept-submenu-below t,
@@ -391,8 +481,12 @@ accept-table-returns-5 : (t : ℕ) → accept-table-lts.Need-returns-5 (
   read-title-reads.Learnt,
   doubt-reads.Asked,
   doubt-reads.Learnt,
+  titled-reads.Asked,
+  titled-reads.Learnt,
   accept-head-reads.Asked,
   accept-head-reads.Learnt,
+  headed-reads.Asked,
+  headed-reads.Learnt,
   pass-lines-reads.Asked,
   pass-lines-reads.Learnt,
   accept-submenu-below t,
@@ -407,8 +501,12 @@ accept-table-shared-slice-read-if6 : (t : ℕ) → accept-table-lts.Need-shared-
   read-title-reads.Learnt,
   doubt-reads.Asked,
   doubt-reads.Learnt,
+  titled-reads.Asked,
+  titled-reads.Learnt,
   accept-head-reads.Asked,
   accept-head-reads.Learnt,
+  headed-reads.Asked,
+  headed-reads.Learnt,
   pass-lines-reads.Asked,
   pass-lines-reads.Learnt,
   accept-submenu-below t,
@@ -423,8 +521,12 @@ accept-table-same-length-4 : (t : ℕ) → accept-table-lts.Need-same-length-4 (
   read-title-reads.Learnt,
   doubt-reads.Asked,
   doubt-reads.Learnt,
+  titled-reads.Asked,
+  titled-reads.Learnt,
   accept-head-reads.Asked,
   accept-head-reads.Learnt,
+  headed-reads.Asked,
+  headed-reads.Learnt,
   pass-lines-reads.Asked,
   pass-lines-reads.Learnt,
   accept-submenu-below t,
@@ -439,8 +541,12 @@ accept-table-returns-6 : (t : ℕ) → accept-table-lts.Need-returns-6 (
   read-title-reads.Learnt,
   doubt-reads.Asked,
   doubt-reads.Learnt,
+  titled-reads.Asked,
+  titled-reads.Learnt,
   accept-head-reads.Asked,
   accept-head-reads.Learnt,
+  headed-reads.Asked,
+  headed-reads.Learnt,
   pass-lines-reads.Asked,
   pass-lines-reads.Learnt,
   accept-submenu-below t,
@@ -448,15 +554,19 @@ accept-table-returns-6 : (t : ℕ) → accept-table-lts.Need-returns-6 (
   next-of-reads.Asked,
   next-of-reads.Learnt,
 ) (accept-table-at t) accept-table.Post accept-table-Inv-loop accept-table-μ-loop
-accept-table-returns-6 t c = λ e. let d : c .before .before .before .before .before .before .before .before .before .before .before .before .before .before .before .before .before .before .before .before .before .before .before .before .before .args .left ≡ suc (c .before .before .before .before .before .before .before .before .before .before .before .before .before .before .before .before .before .before .before .before .before .before .before .before .before .args .left - 1) = omega (arith, c .before .before .before .before .before .before .before .before .before .before .before .before .before .before .before .before .before .before .before .if2 .left) in table-reaches _ _ _ d (c .before .before .before .before .before .before .before .before .before .before .before .before .before .before .before .before .before .before .before .before .before .before .read-title .ensures) (c .before .before .before .before .before .before .before .before .before .before .before .before .before .before .before .before .before .before .before .before .if1 .left) (lines-last _ _ ((c .before .before .before .before .before .before .before .before .before .before .before .before .pass-lines .ensures (not-false _ (c .before .before .before .before .before .before .before .before .if4 .left))) .0) ((c .before .before .before .before .before .before .before .before .before .before .before .before .pass-lines .ensures (not-false _ (c .before .before .before .before .before .before .before .before .if4 .left))) .1 .carry _ _ _ _ (along-head _ _ (c .before .before .before .before .before .before .before .before .before .before .before .before .before .before .before .before .before .loop-test .taken) (c .before .before .before .before .before .before .before .before .before .before .before .before .before .before .before .before .accept-head .ensures (omega arith)) (c .before .before .before .before .before .before .before .before .before .before .before .before .before .before .before .before .before .before .loop .inv .0 .0))) (c .before .before .before .before .before .before .accept-submenu .ensures e) (c .if6 .taken))
+accept-table-returns-6 t c = λ e. let d : c .before .before .before .before .before .before .before .before .before .before .before .before .before .before .before .before .before .before .before .before .before .before .before .before .before .before .args .left ≡ suc (c .before .before .before .before .before .before .before .before .before .before .before .before .before .before .before .before .before .before .before .before .before .before .before .before .before .before .args .left - 1) = omega (arith, c .before .before .before .before .before .before .before .before .before .before .before .before .before .before .before .before .before .before .before .before .if2 .left) in table-reaches _ _ _ d (c .before .before .before .before .before .before .before .before .before .before .before .before .before .before .before .before .before .before .before .before .before .before .before .read-title .ensures) (c .before .before .before .before .before .before .before .before .before .before .before .before .before .before .before .before .before .before .before .before .before .if1 .left) (c .before .before .before .before .before .before .before .before .before .before .before .before .before .before .before .before .before .before .before .titled .ensures) (lines-last _ _ ((c .before .before .before .before .before .before .before .before .before .before .before .before .pass-lines .ensures (not-false _ (c .before .before .before .before .before .before .before .before .if4 .left))) .0) ((c .before .before .before .before .before .before .before .before .before .before .before .before .pass-lines .ensures (not-false _ (c .before .before .before .before .before .before .before .before .if4 .left))) .1 .carry _ _ _ _ (along-head _ _ (c .before .before .before .before .before .before .before .before .before .before .before .before .before .before .headed .ensures) (c .before .before .before .before .before .before .before .before .before .before .before .before .before .before .before .before .before .loop-test .taken) (c .before .before .before .before .before .before .before .before .before .before .before .before .before .before .before .before .accept-head .ensures (omega arith)) (c .before .before .before .before .before .before .before .before .before .before .before .before .before .before .before .before .before .before .loop .inv .0 .0))) (c .before .before .before .before .before .before .accept-submenu .ensures e) (c .if6 .taken))
 
 accept-table-next-of-requires : (t : ℕ) → accept-table-lts.Need-next-of-requires (
   read-title-reads.Asked,
   read-title-reads.Learnt,
   doubt-reads.Asked,
   doubt-reads.Learnt,
+  titled-reads.Asked,
+  titled-reads.Learnt,
   accept-head-reads.Asked,
   accept-head-reads.Learnt,
+  headed-reads.Asked,
+  headed-reads.Learnt,
   pass-lines-reads.Asked,
   pass-lines-reads.Learnt,
   accept-submenu-below t,
@@ -471,8 +581,12 @@ accept-table-add-n : (t : ℕ) → accept-table-lts.Need-add-n (
   read-title-reads.Learnt,
   doubt-reads.Asked,
   doubt-reads.Learnt,
+  titled-reads.Asked,
+  titled-reads.Learnt,
   accept-head-reads.Asked,
   accept-head-reads.Learnt,
+  headed-reads.Asked,
+  headed-reads.Learnt,
   pass-lines-reads.Asked,
   pass-lines-reads.Learnt,
   accept-submenu-below t,
@@ -480,15 +594,19 @@ accept-table-add-n : (t : ℕ) → accept-table-lts.Need-add-n (
   next-of-reads.Asked,
   next-of-reads.Learnt,
 ) (accept-table-at t) accept-table.Post accept-table-Inv-loop accept-table-μ-loop
-accept-table-add-n t c = omega (arith, ((c .before .before .before .before .before .before .before .before .before .before .before .before .before .before .pass-lines .ensures (not-false _ (c .before .before .before .before .before .before .before .before .before .before .if4 .left))) .1 .carry _ _ _ _ (along-head _ _ (c .before .before .before .before .before .before .before .before .before .before .before .before .before .before .before .before .before .before .before .loop-test .taken) (c .before .before .before .before .before .before .before .before .before .before .before .before .before .before .before .before .before .before .accept-head .ensures (omega arith)) (c .before .before .before .before .before .before .before .before .before .before .before .before .before .before .before .before .before .before .before .before .loop .inv .0 .0))) .few)
+accept-table-add-n t c = omega (arith, ((c .before .before .before .before .before .before .before .before .before .before .before .before .before .before .pass-lines .ensures (not-false _ (c .before .before .before .before .before .before .before .before .before .before .if4 .left))) .1 .carry _ _ _ _ (along-head _ _ (c .before .before .before .before .before .before .before .before .before .before .before .before .before .before .before .before .headed .ensures) (c .before .before .before .before .before .before .before .before .before .before .before .before .before .before .before .before .before .before .before .loop-test .taken) (c .before .before .before .before .before .before .before .before .before .before .before .before .before .before .before .before .before .before .accept-head .ensures (omega arith)) (c .before .before .before .before .before .before .before .before .before .before .before .before .before .before .before .before .before .before .before .before .loop .inv .0 .0))) .few)
 
 accept-table-loop-less : (t : ℕ) → accept-table-lts.Need-loop-less (
   read-title-reads.Asked,
   read-title-reads.Learnt,
   doubt-reads.Asked,
   doubt-reads.Learnt,
+  titled-reads.Asked,
+  titled-reads.Learnt,
   accept-head-reads.Asked,
   accept-head-reads.Learnt,
+  headed-reads.Asked,
+  headed-reads.Learnt,
   pass-lines-reads.Asked,
   pass-lines-reads.Learnt,
   accept-submenu-below t,
@@ -496,15 +614,19 @@ accept-table-loop-less : (t : ℕ) → accept-table-lts.Need-loop-less (
   next-of-reads.Asked,
   next-of-reads.Learnt,
 ) (accept-table-at t) accept-table.Post accept-table-Inv-loop accept-table-μ-loop
-accept-table-loop-less t c = let b : c .before .before .before .before .before .before .before .before .before .before .before .before .before .before .before .before .before .before .before .before .loop .n < 99 = c .before .before .before .before .before .before .before .before .before .before .before .before .before .before .before .before .before .before .before .loop-test .taken in let k : c .before .before .before .before .before .before .before .before .before .before .before .before .before .before .before .before .before .before .before .before .loop .n ≤ c .before .before .before .before .before .before .before .before .before .before .before .before .before .before .pass-lines .result .n = (c .before .before .before .before .before .before .before .before .before .before .before .before .before .before .pass-lines .ensures (not-false _ (c .before .before .before .before .before .before .before .before .before .before .if4 .left))) .1 .counted in let l : 99 - (c .before .before .before .before .before .before .before .before .before .before .before .before .before .before .pass-lines .result .n + 1) < 99 - c .before .before .before .before .before .before .before .before .before .before .before .before .before .before .before .before .before .before .before .before .loop .n = omega arith in l
+accept-table-loop-less t c = let b : c .before .before .before .before .before .before .before .before .before .before .before .before .before .before .before .before .before .before .before .before .loop .n < 99 = c .before .before .before .before .before .before .before .before .before .before .before .before .before .before .before .before .before .before .before .loop-test .taken in let k : c .before .before .before .before .before .before .before .before .before .before .before .before .before .before .before .before .before .before .before .before .loop .n ≤ c .before .before .before .before .before .before .before .before .before .before .before .before .before .before .pass-lines .result .n = rw (c .before .before .before .before .before .before .before .before .before .before .before .before .before .before .before .before .headed .ensures) at (c .before .before .before .before .before .before .before .before .before .before .before .before .before .before .pass-lines .ensures (not-false _ (c .before .before .before .before .before .before .before .before .before .before .if4 .left)) .1 .counted) in let l : 99 - (c .before .before .before .before .before .before .before .before .before .before .before .before .before .before .pass-lines .result .n + 1) < 99 - c .before .before .before .before .before .before .before .before .before .before .before .before .before .before .before .before .before .before .before .before .loop .n = omega arith in l
 
 accept-table-loop-again : (t : ℕ) → accept-table-lts.Need-loop-again (
   read-title-reads.Asked,
   read-title-reads.Learnt,
   doubt-reads.Asked,
   doubt-reads.Learnt,
+  titled-reads.Asked,
+  titled-reads.Learnt,
   accept-head-reads.Asked,
   accept-head-reads.Learnt,
+  headed-reads.Asked,
+  headed-reads.Learnt,
   pass-lines-reads.Asked,
   pass-lines-reads.Learnt,
   accept-submenu-below t,
@@ -512,15 +634,19 @@ accept-table-loop-again : (t : ℕ) → accept-table-lts.Need-loop-again (
   next-of-reads.Asked,
   next-of-reads.Learnt,
 ) (accept-table-at t) accept-table.Post accept-table-Inv-loop accept-table-μ-loop
-accept-table-loop-again t c = ((rw (c .before .next-of .ensures .0) (lines-more _ _ ((c .before .before .before .before .before .before .before .before .before .before .before .before .before .before .pass-lines .ensures (not-false _ (c .before .before .before .before .before .before .before .before .before .before .if4 .left))) .0) ((c .before .before .before .before .before .before .before .before .before .before .before .before .before .before .pass-lines .ensures (not-false _ (c .before .before .before .before .before .before .before .before .before .before .if4 .left))) .1 .carry _ _ _ _ (along-head _ _ (c .before .before .before .before .before .before .before .before .before .before .before .before .before .before .before .before .before .before .before .loop-test .taken) (c .before .before .before .before .before .before .before .before .before .before .before .before .before .before .before .before .before .before .accept-head .ensures (omega arith)) (c .before .before .before .before .before .before .before .before .before .before .before .before .before .before .before .before .before .before .before .before .loop .inv .0 .0))) (c .before .before .before .before .before .before .before .before .accept-submenu .ensures (not-false _ (c .before .before .before .before .if5 .left))) (omega (arith, c .before .before .if6 .left))), c .before .before .before .before .before .before .before .before .accept-submenu .kept .1 .1 .1 .1 .1 .0 ∙ c .before .before .before .before .before .before .before .before .before .before .before .before .before .before .pass-lines .kept .1 .1 .1 .0 ∙ c .before .before .before .before .before .before .before .before .before .before .before .before .before .before .before .before .before .before .before .before .loop .inv .0 .1), c .before .next-of .ensures .1)
+accept-table-loop-again t c = ((rw (c .before .next-of .ensures .0) (lines-more _ _ ((c .before .before .before .before .before .before .before .before .before .before .before .before .before .before .pass-lines .ensures (not-false _ (c .before .before .before .before .before .before .before .before .before .before .if4 .left))) .0) ((c .before .before .before .before .before .before .before .before .before .before .before .before .before .before .pass-lines .ensures (not-false _ (c .before .before .before .before .before .before .before .before .before .before .if4 .left))) .1 .carry _ _ _ _ (along-head _ _ (c .before .before .before .before .before .before .before .before .before .before .before .before .before .before .before .before .headed .ensures) (c .before .before .before .before .before .before .before .before .before .before .before .before .before .before .before .before .before .before .before .loop-test .taken) (c .before .before .before .before .before .before .before .before .before .before .before .before .before .before .before .before .before .before .accept-head .ensures (omega arith)) (c .before .before .before .before .before .before .before .before .before .before .before .before .before .before .before .before .before .before .before .before .loop .inv .0 .0))) (c .before .before .before .before .before .before .before .before .accept-submenu .ensures (not-false _ (c .before .before .before .before .if5 .left))) (omega (arith, c .before .before .if6 .left))), c .before .before .before .before .before .before .before .before .accept-submenu .kept .1 .1 .1 .1 .1 .0 ∙ c .before .before .before .before .before .before .before .before .before .before .before .before .before .before .pass-lines .kept .1 .1 .1 .0 ∙ c .before .before .before .before .before .before .before .before .before .before .before .before .before .before .before .before .before .before .before .before .loop .inv .0 .1), c .before .next-of .ensures .1)
 
 accept-table-doubt-requires-4 : (t : ℕ) → accept-table-lts.Need-doubt-requires-4 (
   read-title-reads.Asked,
   read-title-reads.Learnt,
   doubt-reads.Asked,
   doubt-reads.Learnt,
+  titled-reads.Asked,
+  titled-reads.Learnt,
   accept-head-reads.Asked,
   accept-head-reads.Learnt,
+  headed-reads.Asked,
+  headed-reads.Learnt,
   pass-lines-reads.Asked,
   pass-lines-reads.Learnt,
   accept-submenu-below t,
@@ -535,8 +661,12 @@ accept-table-same-length-5 : (t : ℕ) → accept-table-lts.Need-same-length-5 (
   read-title-reads.Learnt,
   doubt-reads.Asked,
   doubt-reads.Learnt,
+  titled-reads.Asked,
+  titled-reads.Learnt,
   accept-head-reads.Asked,
   accept-head-reads.Learnt,
+  headed-reads.Asked,
+  headed-reads.Learnt,
   pass-lines-reads.Asked,
   pass-lines-reads.Learnt,
   accept-submenu-below t,
@@ -551,8 +681,12 @@ accept-table-returns-7 : (t : ℕ) → accept-table-lts.Need-returns-7 (
   read-title-reads.Learnt,
   doubt-reads.Asked,
   doubt-reads.Learnt,
+  titled-reads.Asked,
+  titled-reads.Learnt,
   accept-head-reads.Asked,
   accept-head-reads.Learnt,
+  headed-reads.Asked,
+  headed-reads.Learnt,
   pass-lines-reads.Asked,
   pass-lines-reads.Learnt,
   accept-submenu-below t,
@@ -583,8 +717,12 @@ pub +accept-submenu+accept-table-spec : {M : Type 1} → statement M
       read-title-reads.Learnt,
       doubt-reads.Asked,
       doubt-reads.Learnt,
+      titled-reads.Asked,
+      titled-reads.Learnt,
       accept-head-reads.Asked,
       accept-head-reads.Learnt,
+      headed-reads.Asked,
+      headed-reads.Learnt,
       pass-lines-reads.Asked,
       pass-lines-reads.Learnt,
       accept-submenu-below t,
@@ -602,12 +740,13 @@ pub +accept-submenu+accept-table-spec : {M : Type 1} → statement M
     (accept-table-doubt-requires-2 t)
     (accept-table-returns-2 t)
     (accept-table-sub-below t)
+    (accept-table-titled-requires t)
     (accept-table-loop-holds t)
     (accept-table-accept-head-requires t)
     (accept-table-doubt-requires-3 t)
     (accept-table-same-length t)
     (accept-table-returns-3 t)
-    (accept-table-add-t19 t)
+    (accept-table-headed-requires t)
     (accept-table-pass-lines-requires t)
     (accept-table-same-length-2 t)
     (accept-table-returns-4 t)
