@@ -20,7 +20,7 @@ pub(crate) fn word_in(image: &[u8], at: usize) -> usize
 }
 
 // Whether a place is the first odd one from `at` on, which follows at once or behind a zero byte.
-fn is_odd_from(image: &[u8], at: usize, place: usize) -> bool
+fn is_padded_to_odd(image: &[u8], at: usize, place: usize) -> bool
     requires { ⌜ place < length (now image) ⌝ }
     ensures { λ r. ⌜ (r ≡ true → Aligned (now (image .entry)) 1 at place) ⌝ }
 {
@@ -43,7 +43,7 @@ pub(crate) fn plain_end(image: &[u8], before: usize, p: usize, at: usize) -> usi
     if image.len() < p + 5 {
         return 0;
     }
-    let placed = is_odd_from(image, at, p);
+    let placed = is_padded_to_odd(image, at, p);
     if !placed {
         return 0;
     }
@@ -140,7 +140,7 @@ pub(crate) fn accept_head(image: &[u8], n: usize, before: usize, p: usize, w: St
     if Image::MAX_LINES <= w.lines {
         return 0;
     }
-    let placed = is_odd_from(image, w.at, p);
+    let placed = is_padded_to_odd(image, w.at, p);
     if !placed {
         return 0;
     }

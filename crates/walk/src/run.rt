@@ -59,7 +59,7 @@ fn take_usual(image: &[u8], sheet: usize, p: usize, tag: u8, w: Stage, marks: &m
 }
 
 // Whether what stands at the first even place from `at` on follows it at once or behind a zero byte.
-fn is_even_from(image: &[u8], at: usize) -> bool
+fn is_padded_to_even(image: &[u8], at: usize) -> bool
     requires { ⌜ at + 1 < length (now image) ⌝ }
     ensures { λ r. ⌜ (r ≡ true → Aligned (now (image .entry)) 0 at (evenFrom at)) ⌝ }
 {
@@ -118,7 +118,7 @@ pub(crate) fn run(image: &[u8], sheet: usize, start: Spot, marks: &mut [u64]) ->
     let mut s = start;
     while s.stage.at + 11 < image.len() {
         let at = s.stage.at;
-        let zero = is_even_from(image, at);
+        let zero = is_padded_to_even(image, at);
         if !zero {
             return s;
         }

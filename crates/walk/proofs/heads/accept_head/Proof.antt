@@ -11,8 +11,8 @@ returns c = λ e. absurd (omega arith)
 returns-2 : tie.Need-returns-2
 returns-2 c = λ e. absurd (omega arith)
 
-is-odd-from-requires : tie.Need-is-odd-from-requires
-is-odd-from-requires c κs = search needs
+is-padded-to-odd-requires : tie.Need-is-padded-to-odd-requires
+is-padded-to-odd-requires c κs = search needs
 
 returns-3 : tie.Need-returns-3
 returns-3 c = λ e. absurd (omega arith)
@@ -21,9 +21,9 @@ any-end-requires : tie.Need-any-end-requires
 any-end-requires c κs = search needs
 
 returns-4 : tie.Need-returns-4
-returns-4 c = λ e. record { room = omega arith; inside = omega arith; aligned = c .before .before .is-odd-from .ensures (not-false _ (c .before .if3 .left)); head = c .any-end .ensures e }
+returns-4 c = λ e. record { room = omega arith; inside = omega arith; aligned = c .before .before .is-padded-to-odd .ensures (not-false _ (c .before .if3 .left)); head = c .any-end .ensures e }
 
 pub accept-head-spec : {M : Type 1} → statement M
 accept-head-spec =
     tie.close
-    (tie.spec returns returns-2 is-odd-from-requires returns-3 any-end-requires returns-4)
+    (tie.spec returns returns-2 is-padded-to-odd-requires returns-3 any-end-requires returns-4)

@@ -13,8 +13,8 @@ add-if1 c = search needs
 returns : tie.Need-returns
 returns c = λ e. absurd (omega arith)
 
-is-odd-from-requires : tie.Need-is-odd-from-requires
-is-odd-from-requires c κs = search needs
+is-padded-to-odd-requires : tie.Need-is-padded-to-odd-requires
+is-padded-to-odd-requires c κs = search needs
 
 returns-2 : tie.Need-returns-2
 returns-2 c = λ e. absurd (omega arith)
@@ -47,7 +47,7 @@ sub-if5 : tie.Need-sub-if5
 sub-if5 c = search needs
 
 returns-5 : tie.Need-returns-5
-returns-5 c = λ _. (omega arith, (c .before .before .before .before .before .before .is-odd-from .ensures (not-false _ (c .before .before .before .before .before .if2 .left)), λ n z. plain-is _ n _ _ _ z (omega arith) (omega arith) refl (omega arith) (c .before .before .before .before .before .before .before .before .before .pre .1) (sym (c .before .word-in .ensures .0) ∙ c .if5 .taken)))
+returns-5 c = λ _. (omega arith, (c .before .before .before .before .before .before .is-padded-to-odd .ensures (not-false _ (c .before .before .before .before .before .if2 .left)), λ n z. plain-is _ n _ _ _ z (omega arith) (omega arith) refl (omega arith) (c .before .before .before .before .before .before .before .before .before .pre .1) (sym (c .before .word-in .ensures .0) ∙ c .if5 .taken)))
 
 returns-6 : tie.Need-returns-6
 returns-6 c = λ e. absurd (omega arith)
@@ -58,7 +58,7 @@ plain-end-spec =
     (tie.spec
     add-if1
     returns
-    is-odd-from-requires
+    is-padded-to-odd-requires
     returns-2
     shared-slice-read-tag
     returns-3

@@ -23,8 +23,8 @@ loop-holds c = ((moves-none _ _ _ _ (c .before .before .pre .1) (c .before .befo
 add-if1 : tie.Need-add-if1 Inv-loop μ-loop
 add-if1 c = omega (arith, c .before .loop .inv .0 .0 .fits)
 
-is-even-from-requires : tie.Need-is-even-from-requires Inv-loop μ-loop
-is-even-from-requires c κs = omega arith
+is-padded-to-even-requires : tie.Need-is-padded-to-even-requires Inv-loop μ-loop
+is-padded-to-even-requires c κs = omega arith
 
 same-length : tie.Need-same-length Inv-loop μ-loop
 same-length c = c .before .before .before .before .loop .inv .1
@@ -54,19 +54,19 @@ same-length-3 : tie.Need-same-length-3 Inv-loop μ-loop
 same-length-3 c = c .before .before .before .before .before .before .before .take-usual .kept .1 .1 .1 .1 .1 .0 ∙ c .before .before .before .before .before .before .before .before .before .before .before .before .before .before .loop .inv .1
 
 returns-3 : tie.Need-returns-3 Inv-loop μ-loop
-returns-3 c = rw (c .before .next-usual .ensures .1 (c .if5 .taken)) (moves-then _ _ (c .before .before .before .before .before .before .before .before .before .before .before .before .before .before .loop .inv .0 .0) (part-moves _ _ _ (c .before .before .before .before .before .before .before .before .before .before .before .before .before .before .loop .inv .0 .1) (c .before .before .before .before .before .before .before .before .before .before .before .before .before .before .loop .inv .0 .0 .inside) (c .before .before .before .before .before .before .before .before .before .before .before .is-even-from .ensures (not-false _ (c .before .before .before .before .before .before .before .before .before .before .if2 .left))) (c .before .before .before .before .before .before .before .take-usual .ensures .0 (not-false _ (c .before .before .before .if3 .left))) true (λ e. clash refl e) (λ _. c .before .before .if4 .taken)))
+returns-3 c = rw (c .before .next-usual .ensures .1 (c .if5 .taken)) (moves-then _ _ (c .before .before .before .before .before .before .before .before .before .before .before .before .before .before .loop .inv .0 .0) (part-moves _ _ _ (c .before .before .before .before .before .before .before .before .before .before .before .before .before .before .loop .inv .0 .1) (c .before .before .before .before .before .before .before .before .before .before .before .before .before .before .loop .inv .0 .0 .inside) (c .before .before .before .before .before .before .before .before .before .before .before .is-padded-to-even .ensures (not-false _ (c .before .before .before .before .before .before .before .before .before .before .if2 .left))) (c .before .before .before .before .before .before .before .take-usual .ensures .0 (not-false _ (c .before .before .before .if3 .left))) true (λ e. clash refl e) (λ _. c .before .before .if4 .taken)))
 
 loop-less : tie.Need-loop-less Inv-loop μ-loop
-loop-less c = omega (arith, part-onward _ _ (c .before .before .before .before .before .before .before .before .before .before .before .before .before .before .loop .s) (c .before .before .before .before .before .before .before .before .before .before .before .before .before .before .loop .inv .0 .1) (c .before .before .before .before .before .before .before .before .before .before .before .before .before .before .loop .inv .0 .0 .inside) (c .before .before .before .before .before .before .before .before .before .before .before .is-even-from .ensures (not-false _ (c .before .before .before .before .before .before .before .before .before .before .if2 .left))) (c .before .before .before .before .before .before .before .take-usual .ensures .0 (not-false _ (c .before .before .before .if3 .left))), next-moves _ (c .before .before .before .before .before .before .before .before .before .before .before .before .before .before .before .before .before .args .sheet) (c .before .before .before .before .before .before .before .before .before .before .before .before .before .before .loop .marks) (c .if5 .left) (c .before .next-usual .ensures .0 (c .if5 .left)) .onward)
+loop-less c = omega (arith, part-onward _ _ (c .before .before .before .before .before .before .before .before .before .before .before .before .before .before .loop .s) (c .before .before .before .before .before .before .before .before .before .before .before .before .before .before .loop .inv .0 .1) (c .before .before .before .before .before .before .before .before .before .before .before .before .before .before .loop .inv .0 .0 .inside) (c .before .before .before .before .before .before .before .before .before .before .before .is-padded-to-even .ensures (not-false _ (c .before .before .before .before .before .before .before .before .before .before .if2 .left))) (c .before .before .before .before .before .before .before .take-usual .ensures .0 (not-false _ (c .before .before .before .if3 .left))), next-moves _ (c .before .before .before .before .before .before .before .before .before .before .before .before .before .before .before .before .before .args .sheet) (c .before .before .before .before .before .before .before .before .before .before .before .before .before .before .loop .marks) (c .if5 .left) (c .before .next-usual .ensures .0 (c .if5 .left)) .onward)
 
 loop-again : tie.Need-loop-again Inv-loop μ-loop
-loop-again c = ((moves-then _ _ (moves-then _ _ (c .before .before .before .before .before .before .before .before .before .before .before .before .before .before .loop .inv .0 .0) (part-moves _ _ _ (c .before .before .before .before .before .before .before .before .before .before .before .before .before .before .loop .inv .0 .1) (c .before .before .before .before .before .before .before .before .before .before .before .before .before .before .loop .inv .0 .0 .inside) (c .before .before .before .before .before .before .before .before .before .before .before .is-even-from .ensures (not-false _ (c .before .before .before .before .before .before .before .before .before .before .if2 .left))) (c .before .before .before .before .before .before .before .take-usual .ensures .0 (not-false _ (c .before .before .before .if3 .left))) true (λ e. clash refl e) (λ _. c .before .before .if4 .taken))) (next-moves _ _ _ (c .if5 .left) (c .before .next-usual .ensures .0 (c .if5 .left))), c .if5 .left), c .before .before .before .before .before .before .before .take-usual .kept .1 .1 .1 .1 .1 .0 ∙ c .before .before .before .before .before .before .before .before .before .before .before .before .before .before .loop .inv .1)
+loop-again c = ((moves-then _ _ (moves-then _ _ (c .before .before .before .before .before .before .before .before .before .before .before .before .before .before .loop .inv .0 .0) (part-moves _ _ _ (c .before .before .before .before .before .before .before .before .before .before .before .before .before .before .loop .inv .0 .1) (c .before .before .before .before .before .before .before .before .before .before .before .before .before .before .loop .inv .0 .0 .inside) (c .before .before .before .before .before .before .before .before .before .before .before .is-padded-to-even .ensures (not-false _ (c .before .before .before .before .before .before .before .before .before .before .if2 .left))) (c .before .before .before .before .before .before .before .take-usual .ensures .0 (not-false _ (c .before .before .before .if3 .left))) true (λ e. clash refl e) (λ _. c .before .before .if4 .taken))) (next-moves _ _ _ (c .if5 .left) (c .before .next-usual .ensures .0 (c .if5 .left))), c .if5 .left), c .before .before .before .before .before .before .before .take-usual .kept .1 .1 .1 .1 .1 .0 ∙ c .before .before .before .before .before .before .before .before .before .before .before .before .before .before .loop .inv .1)
 
 loop-less-2 : tie.Need-loop-less-2 Inv-loop μ-loop
-loop-less-2 c = omega (arith, part-onward _ _ (c .before .before .before .before .before .before .before .before .before .before .before .before .loop .s) (c .before .before .before .before .before .before .before .before .before .before .before .before .loop .inv .0 .1) (c .before .before .before .before .before .before .before .before .before .before .before .before .loop .inv .0 .0 .inside) (c .before .before .before .before .before .before .before .before .before .is-even-from .ensures (not-false _ (c .before .before .before .before .before .before .before .before .if2 .left))) (c .before .before .before .before .before .take-usual .ensures .0 (not-false _ (c .before .if3 .left))))
+loop-less-2 c = omega (arith, part-onward _ _ (c .before .before .before .before .before .before .before .before .before .before .before .before .loop .s) (c .before .before .before .before .before .before .before .before .before .before .before .before .loop .inv .0 .1) (c .before .before .before .before .before .before .before .before .before .before .before .before .loop .inv .0 .0 .inside) (c .before .before .before .before .before .before .before .before .before .is-padded-to-even .ensures (not-false _ (c .before .before .before .before .before .before .before .before .if2 .left))) (c .before .before .before .before .before .take-usual .ensures .0 (not-false _ (c .before .if3 .left))))
 
 loop-again-2 : tie.Need-loop-again-2 Inv-loop μ-loop
-loop-again-2 c = ((moves-then _ _ (c .before .before .before .before .before .before .before .before .before .before .before .before .loop .inv .0 .0) (part-moves _ _ _ (c .before .before .before .before .before .before .before .before .before .before .before .before .loop .inv .0 .1) (c .before .before .before .before .before .before .before .before .before .before .before .before .loop .inv .0 .0 .inside) (c .before .before .before .before .before .before .before .before .before .is-even-from .ensures (not-false _ (c .before .before .before .before .before .before .before .before .if2 .left))) (c .before .before .before .before .before .take-usual .ensures .0 (not-false _ (c .before .if3 .left))) _ (λ _. omega (arith, c .if4 .left)) (λ e. clash e (c .before .before .before .before .before .before .before .before .before .before .before .before .loop .inv .0 .1))), c .before .before .before .before .before .before .before .before .before .before .before .before .loop .inv .0 .1), c .before .before .before .before .before .take-usual .kept .1 .1 .1 .1 .1 .0 ∙ c .before .before .before .before .before .before .before .before .before .before .before .before .loop .inv .1)
+loop-again-2 c = ((moves-then _ _ (c .before .before .before .before .before .before .before .before .before .before .before .before .loop .inv .0 .0) (part-moves _ _ _ (c .before .before .before .before .before .before .before .before .before .before .before .before .loop .inv .0 .1) (c .before .before .before .before .before .before .before .before .before .before .before .before .loop .inv .0 .0 .inside) (c .before .before .before .before .before .before .before .before .before .is-padded-to-even .ensures (not-false _ (c .before .before .before .before .before .before .before .before .if2 .left))) (c .before .before .before .before .before .take-usual .ensures .0 (not-false _ (c .before .if3 .left))) _ (λ _. omega (arith, c .if4 .left)) (λ e. clash e (c .before .before .before .before .before .before .before .before .before .before .before .before .loop .inv .0 .1))), c .before .before .before .before .before .before .before .before .before .before .before .before .loop .inv .0 .1), c .before .before .before .before .before .take-usual .kept .1 .1 .1 .1 .1 .0 ∙ c .before .before .before .before .before .before .before .before .before .before .before .before .loop .inv .1)
 
 same-length-4 : tie.Need-same-length-4 Inv-loop μ-loop
 same-length-4 c = c .before .before .loop .inv .1
@@ -82,7 +82,7 @@ run-spec =
     μ-loop
     loop-holds
     add-if1
-    is-even-from-requires
+    is-padded-to-even-requires
     same-length
     returns
     add-p

@@ -3,8 +3,8 @@ use mathlib.Core.Bool.{false≢true}
 use borrow.Author.Tests.{eqb-true}
 use native.Mathlib.Omega.{arith}
 use borrow.Author.Needs.{needs}
-use Rattle.walk.proofs.heads.is_odd_from.Statement.{statement}
-use Rattle.walk.proofs.heads.is_odd_from.Tie as tie
+use Rattle.walk.proofs.heads.is_padded_to_odd.Statement.{statement}
+use Rattle.walk.proofs.heads.is_padded_to_odd.Tie as tie
 
 returns : tie.Need-returns
 returns c = λ e. let q = eqb-true (c .before .args .place) (c .before .args .at) e in record { agrees = omega arith; after = omega arith; first = omega arith; inside = λ l. absurd (omega arith); zeroed = λ l. absurd (omega arith) }
@@ -24,6 +24,6 @@ returns-3 c = λ e. absurd (false≢true e)
 returns-4 : tie.Need-returns-4
 returns-4 c = λ e. absurd (false≢true e)
 
-pub is-odd-from-spec : {M : Type 1} → statement M
-is-odd-from-spec =
+pub is-padded-to-odd-spec : {M : Type 1} → statement M
+is-padded-to-odd-spec =
     tie.close (tie.spec returns sub-if3 shared-slice-read-result returns-2 returns-3 returns-4)
