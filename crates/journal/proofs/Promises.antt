@@ -2,14 +2,14 @@
 use Prim.Native.Nat.{ℕ, _+_, _*_, _≤_, _<_}
 use mathlib.Core.Path.{_≡_, refl, sym, ap, _∙_}
 use mathlib.Core.Logic.{_⊎_, inl, inr}
-use mathlib.Core.Bool.{Bool, true, false}
-use mathlib.Core.List.{List, [], _∷_, map, List·Memᴰ, List·Memᴰ·cases-cons, List·Memᴰ·not-nil}
+use mathlib.Core.Bool.{Bool, true, false, false≢true}
+use mathlib.Core.List.{List, [], _∷_, map, List·Memᴰ, List·Memᴰ·head, List·Memᴰ·tail, List·Memᴰ·cases-cons, List·Memᴰ·not-nil}
 use native.Mathlib.Omega.{arith}
 use lib.ListN.{length}
-use borrow.Author.Tests.{eqb-true, eqb-false, lt-ltb}
+use borrow.Author.Tests.{eqb-true, eqb-false, lt-ltb, ltb-true}
 use Rattle.laws.specs.Choice.{if_then_else_, _and_, _=?_, _<?_, _≤?_}
 use Rattle.laws.specs.Parts.{partAt}
-use Rattle.laws.proofs.Cases.{by-test, if-true, if-false, if-eq, if-ne, and-i}
+use Rattle.laws.proofs.Cases.{by-test, if-true, if-false, if-eq, if-ne, and-i, and-l, and-r}
 use Rattle.field.specs.Sheet.{sizeOf}
 use Rattle.field.specs.declared.record.Field.{Field}
 use Rattle.cmf.specs.Grammar.{WellFormed}
@@ -94,6 +94,7 @@ demand-1 = record {
   event-number = event-order;
   draw-number = draw-order;
   text-number = text-order;
+  open-tells = λ im sheet columns lines. refl;
   open-closes = λ im sheet columns lines h. if-ne (openRefusal im sheet columns lines) 0 _ _ h;
   open-keeps = λ im sheet columns lines h. if-ne (openRefusal im (length sheet) columns lines) 0 _ _ h;
   closed-unfit = closed-never-fits;
@@ -133,6 +134,12 @@ open-well im sheet columns lines =
       λ h. next-given _ _ (holding 1 (shapeFits columns lines) (h .0)) ∙ a .1 (h .1),
     )
 
+-- a field of a list that stands at a place
+record Placed (p : ℕ) (fs : List Field) : Type 0 where
+  field : Field
+  known : List·Memᴰ field fs
+  place : field .image .0 ≡ p
+
 -- a field of the image is reached at its place
 field-reached : (f : Field) (fs : List Field) → List·Memᴰ f fs → reached (f .image .0) (map entryOf fs) ≡ true
 unfolding reached
@@ -154,6 +161,23 @@ given-text im sheet w f m item h =
     (and-i (rw (counted im sheet w .index) (field-reached f (w .fields) m))
     (rw (field-stands im sheet w f m .0) (lt-ltb item (itemsIn (f .kind)) h)))
 
+-- and nothing else is reached
+reached-field : (p : ℕ) (fs : List Field) → reached p (map entryOf fs) ≡ true → Placed p fs
+unfolding reached
+reached-field p [] h = absurd (false≢true h)
+reached-field p (g ∷ fs) h =
+    by-test (g .image .0 =? p) (λ z. record { field = g; known = List·Memᴰ·head refl; place = eqb-true _ _ z })
+    (λ z. let r = reached-field p fs (sym (if-false _ _ z) ∙ h) in record { field = r .field; known = List·Memᴰ·tail (r .known); place = r .place })
+
+only-text : (im : List ℕ) (sheet place item : ℕ) → textRefusal im sheet place item ≡ 0 → IsField im place × (item < itemsIn (fieldAt im place .kind))
+unfolding textRefusal
+only-text im sheet place item h =
+    let n = none-before _ _ h in
+    let w = accepted-exactly-when-well-formed im sheet .0 (n .0) in
+    let b = none-unless 14 _ (λ e. omega arith) (n .1) in
+    let r = reached-field place (w .fields) (rw (counted im sheet w .index) at (and-l _ _ b)) in
+    (rw (r .place) at (field-stands im sheet w (r .field) (r .known) .1), ltb-true item _ (and-r _ _ b))
+
 pub demand-2 : Demand2
 unfolding begunWith openAnswer drawCursor drawnPicture
 demand-2 = record {
@@ -168,6 +192,7 @@ demand-2 = record {
   draws = λ im sheet s picture h. if-eq (drawRefusal im (length sheet) s (length picture)) 0 _ _ h;
   points = λ im sheet s n h. if-eq (drawRefusal im sheet s n) 0 _ _ h;
   text-given = given-text;
+  text-only = only-text;
   texts = item-is;
   protected = only-after-its-digits;
   unlocked = every-protected-line-was-opened-by-its-digits;

@@ -33,8 +33,8 @@ use Rattle.journal.specs.Unrefused.{NothingRefused}
 -- ---- demand 1: refusals. That every call ends with an answer, whatever it is given, is that its function has a contract and asks for nothing
 
 pub record Demand1 : Type 0 where
-  -- a bad image gets the number that 01's table fixes for it. The definition of `Refused` is apart from the check: they share the byte accessors, the
-  -- table of integer formats and sizes, and the test of a field's settings
+  -- a bad image or sheet gets the number that 01's table fixes for it. The definition of `Refused` is apart from the check: they share the byte accessors,
+  -- `cmf` `Limits`, the formats, sizes and values of fields, and the test of a field's settings
   pub number : (im : List ℕ) (sheet k : ℕ)
       → (((refusalOf im sheet ≡ k) × (k ≡ 0 → ⊥)) → Refused im sheet k) × (Refused im sheet k → (refusalOf im sheet ≡ k) × (k ≡ 0 → ⊥))
   -- and each call its own numbers, in the order of 01: Open 1 first; Event 12, then 13; Draw 12, and 1 last; Option text 14
@@ -50,6 +50,8 @@ pub record Demand1 : Type 0 where
       ≡ (if refusalOf im sheet =? 0
       then (if reached place (checked im sheet .fields) and (item <? itemsIn (fieldAt im place .kind)) then 0 else 14)
       else refusalOf im sheet)
+  -- Open's answer has its number
+  pub open-tells : (im : List ℕ) (sheet columns lines : ℕ) → openAnswer im sheet columns lines .refusal ≡ openRefusal im sheet columns lines
   -- a refused Open gives a closed session, and leaves the sheet
   pub open-closes : (im : List ℕ) (sheet columns lines : ℕ) → (openRefusal im sheet columns lines ≡ 0 → ⊥) → openAnswer im sheet columns lines .session ≡ closed
   pub open-keeps : (im sheet : List ℕ) (columns lines : ℕ) → (openRefusal im (length sheet) columns lines ≡ 0 → ⊥) → openSheet im sheet columns lines ≡ sheet
@@ -91,9 +93,10 @@ pub record Demand2 : Type 0 where
   pub draws : (im sheet : List ℕ) (s : Session) (picture : List ℕ) → drawRefusal im (length sheet) s (length picture) ≡ 0
       → drawnPicture im sheet s picture ≡ pictureOf im sheet s
   pub points : (im : List ℕ) (sheet : ℕ) (s : Session) (n : ℕ) → drawRefusal im sheet s n ≡ 0 → drawCursor im sheet s n ≡ editCursor im s
-  -- an option text is given for each item of each option; it is the item's own bytes, all of them in the image
+  -- an option text is given for each item of each option, and for nothing else; it is the item's own bytes, all of them in the image
   pub text-given : (im : List ℕ) (sheet : ℕ) (w : WellFormed im sheet) (f : Field) → List·Memᴰ f (w .fields) → (item : ℕ) → item < itemsIn (f .kind)
       → textRefusal im sheet (f .image .0) item ≡ 0
+  pub text-only : (im : List ℕ) (sheet place item : ℕ) → textRefusal im sheet place item ≡ 0 → IsField im place × (item < itemsIn (fieldAt im place .kind))
   pub texts : (im : List ℕ) (sheet place item : ℕ) → textRefusal im sheet place item ≡ 0 → ItemIs im place item (optionText im sheet place item)
   -- a protected line opens its submenu only after its own digits
   pub protected : (im sheet : List ℕ) (columns lines : ℕ) (es : List ℕ) (e : ℕ) → let t = played im (begunWith im sheet columns lines) es in
