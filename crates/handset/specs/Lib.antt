@@ -1,5 +1,6 @@
 pub mod Refusals
 pub mod Open
+pub mod Fill
 pub mod Event
 pub mod OptionText
 pub mod Draw

@@ -15,17 +15,14 @@ refused-requires c κs = search needs
 returns : tie.Need-returns
 returns c = rw (c .refused .ensures) (bad-shape (c .before .before .before .before .before .args .image .now) (c .before .before .before .before .before .args .columns) (c .before .before .before .before .before .args .lines) (c .before .before .before .before .before .args .sheet .now) (via (c .before .before .shape-fits .ensures) (not-true _ (c .before .if1 .taken))))
 
-check-requires : tie.Need-check-requires
-check-requires c κs = search needs
+refusal-of-requires : tie.Need-refusal-of-requires
+refusal-of-requires c κs = search needs
 
 refused-requires-2 : tie.Need-refused-requires-2
 refused-requires-2 c κs = search needs
 
 returns-2 : tie.Need-returns-2
-returns-2 c = rw (c .refused2 .ensures) (bad-image (c .before .before .before .before .before .before .before .before .args .image .now) (c .before .before .before .before .before .before .before .before .args .columns) (c .before .before .before .before .before .before .before .before .args .lines) (c .before .before .before .before .before .before .before .before .args .sheet .now) _ (via (c .before .before .before .before .before .shape-fits .ensures) (not-false _ (c .before .before .before .before .if1 .left))) (c .before .before .before .check .ensures) (c .before .if2 .taken))
-
-slice-aggregate-write-defaults : tie.Need-slice-aggregate-write-defaults
-slice-aggregate-write-defaults c = search needs
+returns-2 c = rw (c .refused2 .ensures) (bad-image (c .before .before .before .before .before .before .before .args .image .now) (c .before .before .before .before .before .before .before .args .columns) (c .before .before .before .before .before .before .before .args .lines) (c .before .before .before .before .before .before .before .args .sheet .now) _ (via (c .before .before .before .before .shape-fits .ensures) (not-false _ (c .before .before .before .if1 .left))) (c .before .before .refusal-of .ensures) (c .before .if2 .taken))
 
 write-defaults-requires : tie.Need-write-defaults-requires
 write-defaults-requires c κs = search needs
@@ -37,7 +34,7 @@ same-length : tie.Need-same-length
 same-length c = search needs
 
 returns-3 : tie.Need-returns-3
-returns-3 c = rw (c .opened .ensures) (accepted (c .before .before .before .before .before .before .before .before .before .before .before .before .before .args .image .now) (c .before .before .before .before .before .before .before .before .before .before .before .before .before .args .columns) (c .before .before .before .before .before .before .before .before .before .before .before .before .before .args .lines) (c .before .before .before .before .before .before .before .before .before .before .before .before .before .args .sheet .now) _ _ (via (c .before .before .before .before .before .before .before .before .before .before .shape-fits .ensures) (not-false _ (c .before .before .before .before .before .before .before .before .before .if1 .left))) (c .before .before .before .before .before .before .before .before .check .ensures) (c .before .before .before .before .before .before .if2 .left) (c .before .before .before .write-defaults .ensures))
+returns-3 c = rw (c .opened .ensures) (accepted (c .before .before .before .before .before .before .before .before .before .before .before .args .image .now) (c .before .before .before .before .before .before .before .before .before .before .before .args .columns) (c .before .before .before .before .before .before .before .before .before .before .before .args .lines) (c .before .before .before .before .before .before .before .before .before .before .before .args .sheet .now) _ _ (via (c .before .before .before .before .before .before .before .before .shape-fits .ensures) (not-false _ (c .before .before .before .before .before .before .before .if1 .left))) (c .before .before .before .before .before .before .refusal-of .ensures) (c .before .before .before .before .before .if2 .left) (c .before .before .before .write-defaults .ensures))
 
 pub open-spec : {M : Type 1} → statement M
 open-spec =
@@ -46,10 +43,9 @@ open-spec =
     shape-fits-requires
     refused-requires
     returns
-    check-requires
+    refusal-of-requires
     refused-requires-2
     returns-2
-    slice-aggregate-write-defaults
     write-defaults-requires
     opened-requires
     same-length
