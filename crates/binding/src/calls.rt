@@ -24,6 +24,7 @@ use handset::refusal::NO_SHAPE;
 use handset::refusal::session_refusal;
 use session::fits::shape_fits;
 use session::session::Session;
+use walk::accept::refusal_of;
 
 const REFUSED_TEXT: u64 = 4294967296;
 
@@ -35,7 +36,7 @@ fn unsized_refusal(image: &[u8], sheet: usize, columns: u8, lines: u8) -> u8
     if !shape {
         return NO_SHAPE;
     }
-    session_refusal(image, sheet, Session::closed())
+    session_refusal(refusal_of(image, sheet), image, Session::closed())
 }
 
 #[no_mangle]
@@ -74,7 +75,8 @@ pub extern "C" fn handset_event(
 {
     // The parts of `event`: a session that is handed to it whole is copied once more.
     let before = read_session(&*session);
-    let unfit = session_refusal(image, sheet.len(), before);
+    let faulty = refusal_of(image, sheet.len());
+    let unfit = session_refusal(faulty, image, before);
     let refused = event_refusal(unfit, event);
     if refused != 0 {
         return refused_by(refused);

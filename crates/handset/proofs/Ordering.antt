@@ -50,6 +50,12 @@ unfolding _unless_ if_then_else_
 none-unless k true h z = refl
 none-unless k false h z = absurd (h z)
 
+-- the refusal of image and sheet, then the session's
+pub session-from : (im : List ℕ) (sheet : ℕ) (s : Session) (k u : ℕ) → k ≡ refusalOf im sheet → u ≡ (k before (12 unless sessionFits im s))
+    → u ≡ sessionRefusal im sheet s
+unfolding sessionRefusal
+session-from im sheet s k u p q = rw p at q
+
 -- what has been tested where image, sheet and session are not refused
 pub record Granted (im : List ℕ) (sheet : ℕ) (s : Session) : Type 0 where
   pub accepted : refusalOf im sheet ≡ 0

@@ -12,6 +12,7 @@ use picture::cursor::EditCursor;
 use picture::cursor::edit_cursor;
 use picture::picture::put_picture;
 use session::session::Session;
+use walk::accept::refusal_of;
 
 // The refusal number, 0 for none, and the edit cursor: nowhere where it is refused.
 pub struct Drawn {
@@ -37,7 +38,8 @@ pub fn draw(image: &[u8], sheet: &[u8], session: Session, picture: &mut [u8]) ->
     ensures { λ r. ⌜ told (r .cursor) ≡ drawCursor (now (image .entry)) (length (now (sheet .entry))) session (length (now (picture .entry))) ⌝ }
     ensures { λ _. ⌜ now (picture .exit) ≡ drawnPicture (now (image .entry)) (now (sheet .entry)) session (now (picture .entry)) ⌝ }
 {
-    let unfit = session_refusal(image, sheet.len(), session);
+    let faulty = refusal_of(image, sheet.len());
+    let unfit = session_refusal(faulty, image, session);
     let refusal = draw_refusal(unfit, session.columns, session.lines, picture.len());
     if refusal != 0 {
         return Drawn {

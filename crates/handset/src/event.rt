@@ -10,6 +10,7 @@ use crate::refusal::session_refusal;
 use session::session::Session;
 use session::step::Answer;
 use session::step::Stepped;
+use walk::accept::refusal_of;
 
 // The refusal number, 0 for none, where that of image, sheet and session is known.
 pub fn event_refusal(refusal: u8, event: u8) -> u8
@@ -30,7 +31,8 @@ pub fn event(image: &[u8], sheet: &mut [u8], session: Session, event: u8) -> Ste
     ensures { λ r. ⌜ told (r .answer) ≡ eventTold (now (image .entry)) (now (sheet .entry)) session event ⌝ }
     ensures { λ _. ⌜ now (sheet .exit) ≡ eventSheet (now (image .entry)) (now (sheet .entry)) session event ⌝ }
 {
-    let unfit = session_refusal(image, sheet.len(), session);
+    let faulty = refusal_of(image, sheet.len());
+    let unfit = session_refusal(faulty, image, session);
     let refusal = event_refusal(unfit, event);
     if refusal != 0 {
         return Stepped {

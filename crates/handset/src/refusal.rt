@@ -1,8 +1,8 @@
 // The refusal numbers of the calls, and the tests that Event and Draw share.
 ghost use mathlib.Core.Path.{_≡_};
-ghost use Rattle.handset.specs.Refusals.{sessionRefusal};
+ghost use Rattle.session.specs.Fits.{sessionFits};
+ghost use Rattle.handset.specs.Refusals.{_before_, _unless_};
 use session::session::Session;
-use walk::accept::refusal_of;
 
 // A display of a shape that the paper does not allow.
 pub const NO_SHAPE: u8 = 1;
@@ -19,11 +19,10 @@ pub const NO_EVENT: u8 = 13;
 // A place that is no reached option field, or an item that it has not.
 pub const NO_ITEM: u8 = 14;
 
-// The refusal number of image, sheet and session, 0 for none.
-pub fn session_refusal(image: &[u8], sheet: usize, session: Session) -> u8
-    ensures { λ r. ⌜ r ≡ sessionRefusal (now (image .entry)) sheet session ⌝ }
+// The refusal number, 0 for none, where that of image and sheet is known.
+pub fn session_refusal(refusal: u8, image: &[u8], session: Session) -> u8
+    ensures { λ r. ⌜ r ≡ (refusal before (12 unless sessionFits (now (image .entry)) session)) ⌝ }
 {
-    let refusal = refusal_of(image, sheet);
     if refusal != 0 {
         return refusal;
     }

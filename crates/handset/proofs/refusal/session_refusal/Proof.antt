@@ -1,29 +1,22 @@
 -- Each return is the first refusal that is given.
+use mathlib.Core.Path.{refl}
 use Rattle.laws.proofs.Cases.{via}
-use Rattle.handset.specs.Refusals.{sessionRefusal}
 use Rattle.handset.proofs.Ordering.{refused-before, refused-here, not-refused}
 use borrow.Author.Needs.{needs}
 use Rattle.handset.proofs.refusal.session_refusal.Statement.{statement}
 use Rattle.handset.proofs.refusal.session_refusal.Tie as tie
 
-refusal-of-requires : tie.Need-refusal-of-requires
-refusal-of-requires c κs = search needs
-
 returns : tie.Need-returns
-unfolding sessionRefusal
-returns c = refused-before _ _ 12 _ (c .before .refusal-of .ensures) (c .if1 .taken)
+returns c = refused-before _ _ 12 _ refl (c .if1 .taken)
 
 fits-requires : tie.Need-fits-requires
 fits-requires c κs = search needs
 
 returns-2 : tie.Need-returns-2
-unfolding sessionRefusal
-returns-2 c = not-refused _ _ 12 _ (c .before .before .before .refusal-of .ensures) (c .before .before .if1 .left) (via (c .before .fits2 .ensures) (c .if2 .taken))
+returns-2 c = not-refused _ _ 12 _ refl (c .before .before .if1 .left) (via (c .before .fits2 .ensures) (c .if2 .taken))
 
 returns-3 : tie.Need-returns-3
-unfolding sessionRefusal
-returns-3 c = refused-here _ _ 12 _ (c .before .before .before .refusal-of .ensures) (c .before .before .if1 .left) (via (c .before .fits2 .ensures) (c .if2 .left))
+returns-3 c = refused-here _ _ 12 _ refl (c .before .before .if1 .left) (via (c .before .fits2 .ensures) (c .if2 .left))
 
 pub session-refusal-spec : {M : Type 1} → statement M
-session-refusal-spec =
-    tie.close (tie.spec refusal-of-requires returns fits-requires returns-2 returns-3)
+session-refusal-spec = tie.close (tie.spec returns fits-requires returns-2 returns-3)
