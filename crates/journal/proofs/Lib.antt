@@ -9,6 +9,7 @@ pub mod Playing
 pub mod Passwords
 pub mod Moves
 pub mod Protected
+pub mod EntryCases
 pub mod Fitting
 pub mod FittingEntries
 pub mod WorkingCopies

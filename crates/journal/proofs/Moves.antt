@@ -3,7 +3,7 @@
 use Prim.Native.Nat.{ℕ, suc, _+_, _≤_, _<_}
 use mathlib.Core.Path.{_≡_, refl, ap, _∙_}
 use mathlib.Core.Bool.{Bool, true, false}
-use mathlib.Core.List.{List, [], _∷_, _++_}
+use mathlib.Core.List.{List, [], _∷_}
 use native.Mathlib.Omega.{arith}
 use native.Mathlib.Numerals.{add-one}
 use lib.ListN.{length, set, take, length-set}
@@ -19,7 +19,7 @@ use Rattle.field.specs.declared.keys.Outcome.the-variants as outcome
 use Rattle.cmf.specs.Readers.{textBytes, headAt}
 use Rattle.walk.proofs.Acceptance.{accepted-exactly-when-well-formed}
 use Rattle.session.specs.Events.{lastDigitKey, right, second}
-use Rattle.session.specs.Steps.{withIdle, isFlash}
+use Rattle.session.specs.Steps.{withIdle}
 use Rattle.session.specs.Fits.{cursorLine, cursorHead, modeFits, entryFits, sessionFits}
 use Rattle.session.specs.Seconds.{browseSecond, entrySecond}
 use Rattle.session.specs.Browsing.{upStep, downStep, leftStep, descended, rightStep, enterStep, browseStep}
@@ -35,52 +35,51 @@ use Rattle.session.specs.declared.step.Stepped.{Stepped}
 use Rattle.handset.specs.Event.{eventRefusal, eventStep}
 use Rattle.handset.proofs.Stepping.{EventGranted, event-granted}
 use Rattle.journal.specs.Journal.{answered, ignored}
-use Rattle.journal.specs.Protected.{typedMore, asDigits}
+use Rattle.journal.specs.Protected.{digitMore, entryMore, entryOpen, asDigits}
 use Rattle.journal.proofs.Reached.{cursor-line-in}
 use Rattle.journal.proofs.Passwords.{Stands, head-guarded, typed-right}
 
--- ---- the digits typed, an event more
+-- ---- the keys of an entry, an event more
 
 module _ (ks : List ℕ) (e : ℕ) where
   -- a flash of another key, a refused event and a second are left out
-  unheard-flash : e ≤? lastDigitKey ≡ false → typedMore ks (answered e answer.Flash) ≡ ks
-  unfolding typedMore
+  unheard-flash : e ≤? lastDigitKey ≡ false → entryMore ks (answered e answer.Flash) ≡ ks
+  unfolding entryMore
   unheard-flash h =
-      if-ind (λ (l : List ℕ). l ≡ ks) (ignored (answered e answer.Flash)) (λ _. refl)
-      (λ _. if-false _ _ h ∙ if-ind (λ (l : List ℕ). l ≡ ks) (e =? right) (λ _. if-true _ _ refl) (λ _. refl))
+      if-ind (λ (l : List ℕ). l ≡ ks) (ignored (answered e answer.Flash)) (λ _. refl) (λ _. if-false _ _ h ∙ if-true _ _ refl)
 
-  unheard-refused : (k : ℕ) → typedMore ks (answered e (answer.Refused k)) ≡ ks
-  unfolding typedMore
+  unheard-refused : (k : ℕ) → entryMore ks (answered e (answer.Refused k)) ≡ ks
+  unfolding entryMore
   unheard-refused k = if-true _ _ (if-ind (λ (b : Bool). b ≡ true) (e =? second) (λ _. refl) (λ _. refl))
 
-  unheard-second : (a : Answer) → e =? second ≡ true → typedMore ks (answered e a) ≡ ks
-  unfolding typedMore
+  unheard-second : (a : Answer) → e =? second ≡ true → entryMore ks (answered e a) ≡ ks
+  unfolding entryMore
   unheard-second a h = if-true _ _ (if-true _ _ h)
 
   -- RIGHT begins anew
-  pub right-typed : e ≡ right → typedMore ks (answered e answer.Taken) ≡ []
-  unfolding typedMore
-  right-typed h =
-      if-false _ _ (if-ne e second _ _ (λ q. omega arith)) ∙ if-gt e lastDigitKey _ _ (omega arith) ∙ if-eq e right _ _ h ∙ if-false _ _ refl
+  pub right-begins : e ≡ right → entryMore ks (answered e answer.Taken) ≡ right ∷ []
+  unfolding entryMore
+  right-begins h =
+      if-false _ _ (if-ne e second _ _ (λ q. omega arith)) ∙ if-gt e lastDigitKey _ _ (omega arith) ∙ if-false _ _ refl ∙ if-eq e right _ _ h
 
   -- a digit is one more
-  pub digit-typed : e ≤ lastDigitKey → typedMore ks (answered e answer.Taken) ≡ ks ++ (e ∷ [])
-  unfolding typedMore
-  digit-typed h = if-false _ _ (if-ne e second _ _ (λ q. omega arith)) ∙ if-le e lastDigitKey _ _ h
+  pub digit-typed : e ≤ lastDigitKey → entryMore ks (answered e answer.Taken) ≡ digitMore ks e
+  unfolding entryMore
+  digit-typed h = if-false _ _ (if-ne e second _ _ (λ q. omega arith)) ∙ if-le e lastDigitKey _ _ h ∙ if-false _ _ refl
 
 -- ---- moves
-
--- an entry is open
-abbrev pub typing : Mode → Bool
-typing mode.Browsing = false
-typing (mode.Visit p) = false
-typing (mode.Password n) = true
 
 -- the levels above the shown one stay, or the last of them go
 pub record Kept (s z : Session) : Type 0 where
   pub above : z .above ≡ s .above
   pub outer : z .outer ≤ s .outer
   pub typed : length (z .typed) ≡ length (s .typed)
+
+-- the same level is shown, and those above it stay
+pub record Same (s z : Session) : Type 0 where
+  pub here : z .here ≡ s .here
+  pub outer : z .outer ≡ s .outer
+  pub kept : Kept s z
 
 -- the level shown goes above
 pub record Deeper (s z : Session) : Type 0 where
@@ -100,18 +99,18 @@ pub record Digit (s : Session) (e : ℕ) (r : Stepped) (n : ℕ) : Type 0 where
 -- the six moves from a session by an event with result r
 pub data Move (im : List ℕ) (s : Session) (e : ℕ) (r : Stepped) : Type 0 where
   -- no entry is open after it
-  rests : typing (r .session .mode) ≡ false → Kept s (r .session) → Move im s e r
+  rests : entryOpen (r .session .mode) ≡ false → Kept s (r .session) → Move im s e r
   -- an entry begins
-  begins : e ≡ right → r .answer ≡ answer.Taken → r .session .mode ≡ mode.Password 0 → Kept s (r .session) → Move im s e r
+  begins : e ≡ right → r .answer ≡ answer.Taken → r .session .mode ≡ mode.Password 0 → Same s (r .session) → Move im s e r
   -- nothing is typed, and an open entry is as it was
-  passes : ((ks : List ℕ) → typedMore ks (answered e (r .answer)) ≡ ks) → r .session .mode ≡ s .mode → r .session .typed ≡ s .typed
-      → Kept s (r .session) → Move im s e r
+  passes : ((ks : List ℕ) → entryMore ks (answered e (r .answer)) ≡ ks) → r .session .mode ≡ s .mode → r .session .typed ≡ s .typed
+      → Same s (r .session) → Move im s e r
   -- a digit that is not the last
-  types : (n : ℕ) → Digit s e r n → r .session .mode ≡ mode.Password (suc n) → Kept s (r .session) → Move im s e r
+  types : (n : ℕ) → Digit s e r n → r .session .mode ≡ mode.Password (suc n) → Same s (r .session) → Move im s e r
   -- below a line that is not protected
-  enters : cursorHead im (s .here) .protected ≡ false → typing (r .session .mode) ≡ false → Deeper s (r .session) → Move im s e r
+  enters : cursorHead im (s .here) .protected ≡ false → entryOpen (r .session .mode) ≡ false → Deeper s (r .session) → Move im s e r
   -- below a protected line, by the last of its digits
-  unlocks : (n : ℕ) → Digit s e r n → typing (r .session .mode) ≡ false → Deeper s (r .session)
+  unlocks : (n : ℕ) → Digit s e r n → entryOpen (r .session .mode) ≡ false → Deeper s (r .session)
       → asDigits (take (suc n) (set (s .typed) n e)) ≡ textBytes im (cursorHead im (s .here) .password)
       → r .session .here .table .0 ≡ cursorHead im (s .here) .table → Move im s e r
 
@@ -121,16 +120,20 @@ module _ (im : List ℕ) (s : Session) (e : ℕ) where
   by-move t f g = if-ind (Move im s e) t f g
 
   -- a session with the same levels, or fewer
-  still : {r : Stepped} → typing (r .session .mode) ≡ false → r .session .above ≡ s .above → r .session .outer ≤ s .outer → r .session .typed ≡ s .typed
+  still : {r : Stepped} → entryOpen (r .session .mode) ≡ false → r .session .above ≡ s .above → r .session .outer ≤ s .outer → r .session .typed ≡ s .typed
       → Move im s e r
   still m a o t = Move.rests m (record { above = a; outer = o; typed = ap length t })
 
+  -- a session that shows the same level
+  same : {z : Session} → z .here ≡ s .here → z .outer ≡ s .outer → z .above ≡ s .above → length (z .typed) ≡ length (s .typed) → Same s z
+  same h o a t = record { here = h; outer = o; kept = record { above = a; outer = omega (arith, o); typed = t } }
+
   -- ---- browsing, and visits
-  module _ (b : typing (s .mode) ≡ false) where
+  module _ (b : entryOpen (s .mode) ≡ false) where
     -- the same mode, with the same levels, or fewer
     stays : {r : Stepped} → r .session .mode ≡ s .mode → r .session .above ≡ s .above → r .session .outer ≤ s .outer → r .session .typed ≡ s .typed
         → Move im s e r
-    stays m a o t = still (ap typing m ∙ b) a o t
+    stays m a o t = still (ap entryOpen m ∙ b) a o t
 
     -- the cursor keys move the cursor, or show the table above
     up-moves : Move im s e (upStep (withIdle s 0))
@@ -167,7 +170,7 @@ module _ (im : List ℕ) (s : Session) (e : ℕ) where
     unfolding rightStep
     right-moves q =
         by-move _
-        (λ _. by-move _ (λ _. Move.begins q refl refl (record { above = refl; outer = omega arith; typed = refl })) (λ h. below-moves _ h))
+        (λ _. by-move _ (λ _. Move.begins q refl refl (same refl refl refl refl)) (λ h. below-moves _ h))
         (λ _. stays refl refl (omega arith) refl)
 
     -- every event of browsing
@@ -207,23 +210,18 @@ module _ (im : List ℕ) (s : Session) (e : ℕ) where
   -- ---- an entry of n digits, fewer than the password of the line has
   module _ (z : length (s .typed) ≡ 8) (n : ℕ) (m : s .mode ≡ mode.Password n) (w : Stands im (cursorHead im (s .here) .password))
       (few : n < byteAt im (cursorHead im (s .here) .password)) where
-    -- what leaves the entry as it is
-    waits : {r : Stepped} → ((ks : List ℕ) → typedMore ks (answered e (r .answer)) ≡ ks) → r .session .mode ≡ s .mode → r .session .above ≡ s .above
-        → r .session .outer ≤ s .outer → r .session .typed ≡ s .typed → Move im s e r
-    waits u q a o t = Move.passes u q t (record { above = a; outer = o; typed = ap length t })
-
     -- a second ends it, or counts
     wait-moves : e =? second ≡ true → Move im s e (entrySecond im s)
     unfolding entrySecond
     wait-moves h =
-        by-move _ (λ _. still refl refl (omega arith) refl) (λ _. waits (λ ks. unheard-second ks e answer.Taken h) refl refl (omega arith) refl)
+        by-move _ (λ _. still refl refl (omega arith) refl) (λ _. Move.passes (λ ks. unheard-second ks e answer.Taken h) refl refl (same refl refl refl refl))
 
     module _ (k : e ≤ 9) where
       abbrev typed : List ℕ
       typed = set (s .typed) n e
 
       -- wrong digits, or a table too deep: the entry is over
-      over : {r : Stepped} → typing (r .session .mode) ≡ false → r .session .above ≡ s .above → r .session .outer ≤ s .outer → r .session .typed ≡ typed
+      over : {r : Stepped} → entryOpen (r .session .mode) ≡ false → r .session .above ≡ s .above → r .session .outer ≤ s .outer → r .session .typed ≡ typed
           → Move im s e r
       over q a o t = Move.rests q (record { above = a; outer = o; typed = ap length t ∙ length-set (s .typed) n e })
 
@@ -249,7 +247,7 @@ module _ (im : List ℕ) (s : Session) (e : ℕ) where
       digit-moves =
           by-move _
           (λ _. Move.types n (record { mode = m; few = omega arith; key = k; taken = refl; typed = refl }) (rw add-one)
-          (record { above = refl; outer = omega arith; typed = length-set (s .typed) n e }))
+          (same refl refl refl (length-set (s .typed) n e)))
           (λ h. last-moves (omega (arith, ltb-false (n + 1) (byteAt im (cursorHead im (s .here) .password)) h)))
 
     -- every event of an entry
@@ -259,7 +257,7 @@ module _ (im : List ℕ) (s : Session) (e : ℕ) where
         by-move _ (λ h. wait-moves h)
         (λ _. by-move _ (λ _. still refl refl (omega arith) refl)
         (λ _. by-move _ (λ h. digit-moves (leb-true e 9 h))
-        (λ h. waits (λ ks. unheard-flash ks e h) refl refl (omega arith) refl)))
+        (λ h. Move.passes (λ ks. unheard-flash ks e h) refl refl (same refl refl refl refl))))
 
 -- ---- every event
 
@@ -284,8 +282,8 @@ module _ (im sheet : List ℕ) (s : Session) (e : ℕ) (z : length (s .typed) �
   -- by the mode
   mode-moves : (m : Mode) → s .mode ≡ m → EventGranted im (length sheet) s e → Move im s e (stepIn im sheet s e m)
   unfolding stepIn
-  mode-moves mode.Browsing q g = browse-moves im s e (ap typing q) sheet
-  mode-moves (mode.Visit p) q g = visit-moves im s e (ap typing q) sheet p
+  mode-moves mode.Browsing q g = browse-moves im s e (ap entryOpen q) sheet
+  mode-moves (mode.Visit p) q g = visit-moves im s e (ap entryOpen q) sheet p
   mode-moves (mode.Password n) q g = let a = asked n q g in entry-moves im s e z n q (a .stands) (a .few)
 
   -- every event; a refused one leaves all as it was
@@ -294,4 +292,4 @@ module _ (im sheet : List ℕ) (s : Session) (e : ℕ) (z : length (s .typed) �
   event-moves =
       by-move im s e _
       (λ h. mode-moves (s .mode) refl (event-granted im (length sheet) s e (eqb-true (eventRefusal im (length sheet) s e) 0 h)))
-      (λ _. Move.passes (λ ks. unheard-refused ks e (eventRefusal im (length sheet) s e)) refl refl (record { above = refl; outer = omega arith; typed = refl }))
+      (λ _. Move.passes (λ ks. unheard-refused ks e (eventRefusal im (length sheet) s e)) refl refl (same im s e refl refl refl refl))

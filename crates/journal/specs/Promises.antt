@@ -3,7 +3,7 @@
 use Prim.Native.Nat.{ℕ, _*_, _<_}
 use mathlib.Core.Path.{_≡_}
 use mathlib.Core.Bool.{true, false}
-use mathlib.Core.List.{List, [], _∷_, _++_, List·Memᴰ}
+use mathlib.Core.List.{List, [], List·Memᴰ}
 use lib.ListN.{length, getD}
 use Rattle.laws.specs.Choice.{if_then_else_, _and_, _=?_, _<?_, _≤?_}
 use Rattle.laws.specs.Parts.{partAt}
@@ -26,7 +26,7 @@ use Rattle.handset.specs.Draw.{drawRefusal, drawCursor, drawnPicture}
 use Rattle.handset.specs.OptionText.{reached, itemsIn, ItemIs, textRefusal, optionText}
 use Rattle.journal.specs.Journal.{allVisited, AllFinish, journalOf}
 use Rattle.journal.specs.Rules.{fieldAt, rulesOf, IsField, Beside, HoldsJournal}
-use Rattle.journal.specs.Sitting.{Sitting, begunWith, next, answerTo, played, answeredIn, visitsIn}
+use Rattle.journal.specs.Sitting.{Sitting, begunWith, next, played, answeredIn, visitsIn}
 use Rattle.journal.specs.Protected.{OpenedByDigits, Unlocked}
 use Rattle.journal.specs.Unrefused.{NothingRefused}
 
@@ -101,9 +101,12 @@ pub record Demand2 : Type 0 where
   -- a protected line opens its submenu only after its own digits
   pub protected : (im sheet : List ℕ) (columns lines : ℕ) (es : List ℕ) (e : ℕ) → let t = played im (begunWith im sheet columns lines) es in
       cursorHead im (t .session .here) .protected ≡ true → t .session .outer < next im t e .session .outer
-      → OpenedByDigits im (cursorHead im (t .session .here)) (next im t e) (answerTo im t e) (answeredIn im (begunWith im sheet columns lines) (es ++ (e ∷ [])))
-  pub unlocked : (im sheet : List ℕ) (columns lines : ℕ) (es : List ℕ) (k : ℕ) → let s = played im (begunWith im sheet columns lines) es .session in
-      k < s .outer → cursorHead im (getD (s .above) k noLevel) .protected ≡ true → Unlocked im (begunWith im sheet columns lines) es k (getD (s .above) k noLevel)
+      → OpenedByDigits im (begunWith im sheet columns lines) es e (t .session .outer) (t .session .here)
+  -- so each protected line above the shown table was opened by its digits, and what is below it has been shown since
+  pub unlocked : (im sheet : List ℕ) (columns lines : ℕ) (es : List ℕ) (k : ℕ) →
+      let s = played im (begunWith im sheet columns lines) es .session in
+      let l = getD (s .above) k noLevel in
+      k < s .outer → cursorHead im l .protected ≡ true → Unlocked im (begunWith im sheet columns lines) es k l
 
 -- ---- demand 3: whole sittings
 
