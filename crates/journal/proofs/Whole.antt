@@ -7,7 +7,8 @@ use mathlib.Core.Bool.{Bool, true, false, true≢false}
 use mathlib.Core.List.{List, [], _∷_, _++_, reverse, reverseAux, reverse-cons}
 use borrow.Author.Tests.{eqb-true, eqb-false}
 use Rattle.laws.specs.Choice.{if_then_else_, _=?_}
-use Rattle.laws.proofs.Cases.{by-test}
+use Rattle.laws.proofs.Cases.{by-test, if-false}
+use Rattle.session.specs.Events.{enter}
 use Rattle.session.specs.declared.step.Answer.{Answer}
 use Rattle.session.specs.declared.step.Answer.the-variants as answer
 use Rattle.journal.specs.Journal.{Answered, answered, Out, on, stored, Rules, counts, ignored, keep, after, keysOf, onward, presses, leaves, visited, allVisited, Finishes, AllFinish, Journal, update, noted, finishedKeys, withVisit, settled, fed, allFed, empty, journalOf}
@@ -74,7 +75,11 @@ module _ {W : Type 0} (R : Rules W) where
   leads-end {p} {j} x h m o c =
       ap (leaves R p (j .bytes p)) (presses-reverse p (on (R .start p (j .bytes p))) (keysOf (after (R .opener p) (x ∷ j .trace)))) ∙ rw (c, m, h .leads, o)
 
-  -- and the visit is finished: its last key stores, and none before it
+  -- only ENTER counts
+  counts-enter : (x : Answered) → counts x ≡ true → x .event ≡ enter
+  counts-enter x m = by-test (x .event =? enter) (eqb-true (x .event) enter) (λ h. absurd (true≢false (sym m ∙ if-false _ _ h)))
+
+  -- and the visit is finished: its last key is an ENTER that stores, and no key before it does
   leads-finish : {p n : ℕ} {j : Journal} {w : W} {v : List ℕ} (x : Answered) → Leads p w n j → counts x ≡ true → R .press p w (x .event) ≡ stored v → R .opener p ≡ suc (suc n)
       → Finishes R p (j .bytes p) (finishedKeys R p (noted x j))
   unfolding if_then_else_
@@ -83,6 +88,7 @@ module _ {W : Type 0} (R : Rules W) where
     last = x .event;
     copy = w;
     all = rw (c, m) (reverse-cons (x .event) (keysOf (after (suc n) (j .trace))));
+    key = counts-enter x m;
     goes = presses-reverse p (on (R .start p (j .bytes p))) (keysOf (after (suc n) (j .trace))) ∙ h .leads;
     stores = o ∙ ap stored (sym (leads-end x h m o c));
   }

@@ -88,12 +88,13 @@ module _ {W : Type 0} (R : Rules W) (p : ℕ) where
   allVisited b [] = b
   allVisited b (v ∷ vs) = allVisited (visited b v) vs
 
-  -- a visit that starts from the bytes b is finished: its last key stores, and none before it
+  -- a visit that starts from the bytes b is finished: its last key is an ENTER that stores, and no key before it does
   pub record Finishes (b keys : List ℕ) : Type 0 where
     pub before : List ℕ
     pub last : ℕ
     pub copy : W
     pub all : keys ≡ before ++ (last ∷ [])
+    pub key : last ≡ enter
     pub goes : presses (on (R .start p b)) before ≡ on copy
     pub stores : R .press p copy last ≡ stored (visited b keys)
 

@@ -137,7 +137,7 @@ pub record Demand3 : Type 0 where
   pub journal : {im : List ℕ} (c : Candidate im) → HoldsJournal im (end c .sheet) (journalOf (rulesOf im) (answeredIn im (start c) (c .events)))
   -- so they are its default changed by its own finished visits one after another, whatever was done elsewhere between them
   pub visits : {im : List ℕ} (c : Candidate im) (q : ℕ) → IsField im q → bytesAt c q ≡ allVisited (rulesOf im) q (bytesOf (fieldAt im q .default)) (visitsAt c q)
-  -- where a visit is what its name says: its last key stores, and none before it
+  -- where a visit is what its name says: its last key is an ENTER that stores, and no key before it does
   pub finishes : {im : List ℕ} (c : Candidate im) (q : ℕ) → AllFinish (rulesOf im) q (bytesOf (fieldAt im q .default)) (visitsAt c q)
   -- two candidates with the same finished visits at a field have the same bytes there, in whatever order they went and whatever they did elsewhere
   pub candidates : {im : List ℕ} (a b : Candidate im) (q : ℕ) → IsField im q → visitsAt a q ≡ visitsAt b q → bytesAt a q ≡ bytesAt b q
