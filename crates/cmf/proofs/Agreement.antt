@@ -8,7 +8,7 @@ use Rattle.laws.specs.Choice.{if_then_else_}
 use Rattle.laws.specs.Bytes.{byteAt}
 use Rattle.field.specs.declared.record.Field.{Field}
 use Rattle.cmf.specs.Layouts.{Text, Aligned, Component, lastBit}
-use Rattle.cmf.specs.Grammar.{Head, isFirst, isLast, hasSubmenu, nextLine, submenuTable}
+use Rattle.cmf.specs.Grammar.{Head, isLast, hasSubmenu, nextLine, submenuTable}
 use Rattle.cmf.specs.Readers.{oddFrom, evenFrom, titleAt, headAt, componentAt}
 use Rattle.cmf.specs.declared.component.Component as read
 

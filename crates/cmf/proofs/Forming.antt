@@ -18,7 +18,6 @@ use Rattle.cmf.specs.Readers.{textsFrom, titleBy, titleAt, tagBit, optio
 use Rattle.cmf.specs.declared.text.Run.{Run}
 use Rattle.cmf.specs.declared.title.Title.{Title}
 use Rattle.cmf.specs.declared.head.Head as head
-use Rattle.cmf.specs.declared.component.Component as read
 use Rattle.cmf.proofs.Heads.{digits-fit, fit-digits, one-password}
 
 -- what cannot be

@@ -1,15 +1,15 @@
 -- A component that is not marked as the last stands in the image, and the next one behind it.
-use Prim.Native.Nat.{ℕ, zero, suc, _+_, _-_, _/_, _%_, _≤_, _<_, max}
-use mathlib.Core.Path.{_≡_, refl, sym, ap, _∙_}
-use mathlib.Core.Bool.{Bool, true, false, true≢false}
-use mathlib.Core.List.{List, [], _∷_}
+use Prim.Native.Nat.{ℕ, zero, suc, _+_, _-_, _%_, _≤_, _<_, max}
+use mathlib.Core.Path.{_≡_}
+use mathlib.Core.Bool.{true, false, true≢false}
+use mathlib.Core.List.{List}
 use native.Mathlib.Omega.{arith}
 use lib.ListN.{length}
 use borrow.Author.Tests.{ltb-true}
-use Rattle.laws.specs.Choice.{if_then_else_, _=?_, _<?_, _≤?_}
+use Rattle.laws.specs.Choice.{_<?_}
 use Rattle.laws.specs.Bytes.{byteAt, room}
 use Rattle.laws.proofs.Cases.{if-ind, if-min}
-use Rattle.cmf.specs.Readers.{tagBit, textsFrom, fixedBytes, textCount, given, componentRefused, laidOut, componentBy, componentAt}
+use Rattle.cmf.specs.Readers.{tagBit, textsFrom, fixedBytes, textCount, given, laidOut, componentBy, componentAt}
 use Rattle.cmf.specs.declared.component.Component.{Component}
 use Rattle.cmf.specs.declared.text.Run.{Run}
 

@@ -1,5 +1,5 @@
 -- One turn of each loop over texts, digits, items and lines, and the ways out of it; over variables, so that a loop's proof cites one line.
-use Prim.Native.Nat.{ℕ, zero, suc, _+_, _-_, _*_, _/_, _%_, _≤_, _<_, max}
+use Prim.Native.Nat.{ℕ, zero, suc, _+_, _-_, _*_, _≤_, _<_, max}
 use mathlib.Core.Path.{_≡_, refl, sym, _∙_}
 use mathlib.Core.Bool.{Bool, true, false}
 use mathlib.Core.List.{List, []}
@@ -9,7 +9,7 @@ use lib.ListN.{length}
 use borrow.Author.Tests.{le-leb, lt-leb, leb-true}
 use Rattle.laws.specs.Choice.{if_then_else_, _and_, _≤?_}
 use Rattle.laws.specs.Bytes.{byteAt, room}
-use Rattle.laws.proofs.Cases.{if-true, if-false, if-lt, if-ge, if-le, if-ind, by-test}
+use Rattle.laws.proofs.Cases.{if-true, if-false, if-lt, if-ge, if-le, if-ind}
 use Rattle.laws.proofs.Rooms.{room-le, le-room}
 use Rattle.cmf.specs.Readers.{runOf, textsFrom, allDigits, itemFrom, textBytes, tagBit, optionsEnd, passwords, headRead, headBy, headAt}
 use Rattle.cmf.specs.Places.{linesFrom, lineFrom}

@@ -9,7 +9,7 @@ ghost use Rattle.laws.specs.Bytes.{wordAt, room};
 ghost use Rattle.field.specs.Cells.{biased};
 ghost use Rattle.field.specs.Settings.{settingsFit};
 ghost use Rattle.field.specs.Values.{valueOf, valueAt};
-ghost use Rattle.cmf.specs.Readers.{tagBit, textsFrom, fixedBytes, textCount, given, counterOf, kindAt, sheetPlaceAt, fieldBy, componentRefused, componentRead, laidOut, componentBy, componentAt};
+ghost use Rattle.cmf.specs.Readers.{tagBit, fixedBytes, textCount, given, counterOf, kindAt, sheetPlaceAt, fieldBy, componentRefused, componentRead, laidOut, componentBy, componentAt};
 use crate::image::Image;
 use crate::image::word_in;
 use crate::text::Run;

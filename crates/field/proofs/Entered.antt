@@ -12,8 +12,8 @@ use lib.Dec.{lit≤}
 use borrow.Author.Tests.{leb-true, le-leb, eqb-true, eqb-false}
 use Rattle.laws.specs.Choice.{if_then_else_, _=?_}
 use Rattle.laws.specs.Parts.{partAt}
-use Rattle.laws.specs.Digits.{digitsOf, numberFrom, lowFirst, fromLow}
-use Rattle.laws.proofs.Cases.{if-ind, if-true, if-false, if-eq, if-max, if-min, by-test, and-i}
+use Rattle.laws.specs.Digits.{fromLow}
+use Rattle.laws.proofs.Cases.{if-ind, if-true, if-false, if-eq, by-test, and-i}
 use Rattle.laws.proofs.Numerals.{Below, below-all, number-below, number-of-low}
 use Rattle.field.specs.Formats.{numeralOf, bitsIn, bitsOf}
 use Rattle.field.specs.Table.{profileOf, cellOf}

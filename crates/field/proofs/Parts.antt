@@ -3,7 +3,7 @@ use Prim.Native.Nat.{_+_, _<_}
 use mathlib.Core.Path.{_≡_}
 use mathlib.Core.Bool.{true}
 use borrow.Author.Tests.{ltb-true}
-use Rattle.laws.specs.Choice.{_and_, _<?_}
+use Rattle.laws.specs.Choice.{_and_}
 use Rattle.laws.proofs.Cases.{and-r}
 use Rattle.field.specs.Keys.{partAfter}
 use Rattle.field.specs.declared.table.Profile.{Profile}

@@ -1,5 +1,5 @@
 -- Numbers in cells: the integer formats of section 7, switches, and their ranges (01, Fields).
-use Prim.Native.Nat.{ℕ, _+_, _-_, _/_, _^_, min}
+use Prim.Native.Nat.{ℕ, _-_, _/_, _^_, min}
 use mathlib.Core.Bool.{Bool, true, false}
 use Rattle.laws.specs.Choice.{if_then_else_, _=?_, _<?_}
 use Rattle.field.specs.declared.kind.Format.{Format}

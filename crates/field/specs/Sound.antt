@@ -1,5 +1,5 @@
 -- What holds of the numerals that there are: the bounds within which numbers in digits are computed.
-use Prim.Native.Nat.{ℕ, _+_, _-_, _^_, _≤_, _<_}
+use Prim.Native.Nat.{_+_, _-_, _^_, _≤_, _<_}
 use mathlib.Core.Path.{_≡_}
 use Rattle.field.specs.declared.numeral.Numeral.{Numeral}
 

@@ -1,6 +1,6 @@
 -- What a field is (01, Fields and Keys) as two tables: a row for each kind, and a row for each cell.
 use Prim.Native.Nat.{ℕ, _+_, _-_}
-use mathlib.Core.Bool.{Bool, true, false}
+use mathlib.Core.Bool.{true, false}
 use Rattle.laws.specs.Choice.{if_then_else_, _=?_, _<?_}
 use Rattle.field.specs.Formats.{signsOf, digitsIn, baseOf, bitsIn}
 use Rattle.field.specs.declared.kind.Kind.{Kind}

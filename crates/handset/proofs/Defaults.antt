@@ -1,7 +1,7 @@
 -- After Open each field's bytes are its default, whatever the sheet held, other bytes are as they were, and the session fits. A default
 -- that stands stays: a later one is that of a field apart, or of the same field again.
-use Prim.Native.Nat.{ℕ, zero, suc, _+_, _-_, _≤_, _<_}
-use mathlib.Core.Path.{_≡_, refl, sym, ap, _∙_}
+use Prim.Native.Nat.{ℕ, _+_, _-_, _≤_, _<_}
+use mathlib.Core.Path.{_≡_, refl, ap, _∙_}
 use mathlib.Core.Bool.{Bool, true, false}
 use mathlib.Core.Logic.{_⊎_, inl, inr}
 use mathlib.Core.List.{List, [], _∷_, map, List·Memᴰ, List·Memᴰ·head, List·Memᴰ·tail, List·Memᴰ·cases-cons, List·Memᴰ·not-nil}
@@ -29,9 +29,9 @@ use Rattle.cmf.specs.Grammar.{WellFormed, Every}
 use Rattle.cmf.specs.Readers.{componentAt}
 use Rattle.cmf.specs.Places.{lineCount}
 use Rattle.cmf.specs.declared.component.Component as read
-use Rattle.cmf.proofs.Agreement.{Agree, ComponentIs, fieldsOf}
+use Rattle.cmf.proofs.Agreement.{fieldsOf}
 use Rattle.cmf.proofs.Agreeing.{agree}
-use Rattle.walk.specs.Check.{entryOf, checked, refusalOf}
+use Rattle.walk.specs.Check.{entryOf, checked}
 use Rattle.walk.proofs.Acceptance.{counted}
 use Rattle.walk.proofs.Fields.{every-table, every-in, others-apart, field-inside}
 use Rattle.walk.proofs.Reach.{some-line}

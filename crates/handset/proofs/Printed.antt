@@ -1,8 +1,7 @@
 -- The picture that 01 prints comes out of the calls: Open on any sheet of one byte, then Draw on any picture of 64.
 use Prim.Native.Nat.{ℕ}
 use mathlib.Core.Path.{_≡_, refl, sym, _∙_}
-use mathlib.Core.Bool.{true, false}
-use mathlib.Core.List.{List, [], _∷_, _++_}
+use mathlib.Core.List.{List, [], _∷_}
 use lib.ListN.{length}
 use Rattle.laws.specs.Choice.{if_then_else_, _and_}
 use Rattle.laws.specs.Bytes.{wordAt, room}

@@ -3,7 +3,7 @@
 use Prim.Native.Nat.{ℕ}
 use mathlib.Core.Path.{_≡_}
 use mathlib.Core.List.{List}
-use Rattle.cmf.specs.Grammar.{Every, WellFormed}
+use Rattle.cmf.specs.Grammar.{Every}
 use Rattle.walk.specs.Check.{refusalOf}
 use Rattle.walk.proofs.Acceptance.{accepted-exactly-when-well-formed}
 use Rattle.walk.proofs.Fields.{every-table}

@@ -9,7 +9,6 @@ use Rattle.walk.specs.Check.{checked, refusalOf}
 use Rattle.walk.specs.declared.index.Entry.{Entry}
 use Rattle.session.specs.Session.{opened, closed}
 use Rattle.session.specs.Fits.{shapeFits}
-use Rattle.session.specs.declared.session.Session.{Session}
 use Rattle.handset.specs.Refusals.{_before_, _unless_}
 use Rattle.handset.specs.declared.open.Opened.{Opened}
 

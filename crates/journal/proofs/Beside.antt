@@ -1,8 +1,7 @@
 -- Bytes of no field stay through a whole sitting: an event writes only where it finishes a visit, and then only the bytes of a field.
 use Prim.Native.Nat.{ℕ, _+_, _≤_}
-use mathlib.Core.Path.{_≡_, refl, sym, ap, _∙_}
+use mathlib.Core.Path.{_≡_, refl, _∙_}
 use mathlib.Core.Logic.{_⊎_, inl, inr}
-use mathlib.Core.Bool.{Bool, true, false}
 use mathlib.Core.List.{List, [], _∷_}
 use lib.ListN.{length}
 use borrow.Author.Tests.{eqb-true}
@@ -13,7 +12,6 @@ use Rattle.laws.proofs.Frame.{put-beside}
 use Rattle.field.specs.Values.{bytesOf}
 use Rattle.field.specs.Cells.{finished}
 use Rattle.field.specs.Sheet.{sizeOf, finishedIn}
-use Rattle.field.specs.declared.kind.ImagePlace.{ImagePlace}
 use Rattle.field.specs.declared.record.Field.{Field}
 use Rattle.field.specs.declared.work.Work.{Work}
 use Rattle.field.specs.declared.keys.Outcome.{Outcome}

@@ -1,7 +1,7 @@
 -- The components of a line: an editable one holds a field, the first editable one of a list is in it, and what comes behind a component of a
 -- line is on that line too.
 use Prim.Native.Nat.{ℕ, zero, suc, _+_, _%_, _≤_, _<_}
-use mathlib.Core.Path.{_≡_, refl, sym, ap, _∙_, subst}
+use mathlib.Core.Path.{_≡_, refl, sym, _∙_, subst}
 use mathlib.Core.Bool.{Bool, true, false, true≢false, false≢true}
 use mathlib.Core.Logic.{_⊎_, inl, inr}
 use mathlib.Core.List.{List, [], _∷_, List·Memᴰ, List·Memᴰ·head, List·Memᴰ·tail, List·Memᴰ·cases-cons, List·Memᴰ·not-nil, List·Memᴰ·eq-of-singleton}
@@ -10,8 +10,7 @@ use lib.ListN.{length}
 use borrow.Author.Tests.{eqb-true, eqb-false}
 use Rattle.laws.specs.Choice.{if_then_else_, _=?_, _<?_}
 use Rattle.laws.specs.Bytes.{byteAt, room}
-use Rattle.laws.proofs.Cases.{if-ind, if-true, if-false, by-test}
-use Rattle.field.specs.declared.record.Field.{Field}
+use Rattle.laws.proofs.Cases.{if-ind, if-false, by-test}
 use Rattle.cmf.specs.Readers.{tagBit, textsFrom, fixedBytes, textCount, given, componentRefused, componentRead, laidOut, componentBy, componentAt}
 use Rattle.cmf.specs.Places.{componentsFrom}
 use Rattle.cmf.specs.declared.component.Component.{Component}
@@ -20,7 +19,7 @@ use Rattle.cmf.proofs.Onward.{component-onward}
 use Rattle.walk.proofs.Parts.{places-last, places-more}
 use Rattle.walk.proofs.Turns.{turns-more}
 use Rattle.session.specs.Fits.{among}
-use Rattle.session.specs.Browsing.{foundNone, firstEditable, lineFromHere}
+use Rattle.session.specs.Browsing.{firstEditable, lineFromHere}
 use Rattle.session.specs.Visits.{nextEditable}
 use Rattle.session.specs.declared.browse.Found.{Found}
 

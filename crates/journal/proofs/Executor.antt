@@ -1,19 +1,19 @@
 -- The executor's steps are lawful: each event is one of the six cases. An event that is not refused has tested that the image is accepted and
 -- that the session fits, and these facts are enough: nothing is carried from event to event.
-use Prim.Native.Nat.{ℕ, zero, suc, _≤_, _<_}
+use Prim.Native.Nat.{ℕ, suc, _≤_}
 use mathlib.Core.Path.{_≡_, refl, sym, ap, _∙_}
 use mathlib.Core.Logic.{_≢_, _⊎_, inl, inr}
-use mathlib.Core.Bool.{Bool, true, false, true≢false}
-use mathlib.Core.List.{List, [], _∷_, List·Memᴰ}
+use mathlib.Core.Bool.{Bool, true, false}
+use mathlib.Core.List.{List, List·Memᴰ}
 use native.Mathlib.Omega.{arith}
 use lib.ListN.{length}
 use borrow.Author.Tests.{eqb-true, eqb-false, ltb-true, ne-eqb}
-use Rattle.laws.specs.Choice.{if_then_else_, _and_, _=?_, _<?_, _≤?_}
+use Rattle.laws.specs.Choice.{if_then_else_, _and_, _=?_, _≤?_}
 use Rattle.laws.proofs.Cases.{if-ind, if-true, if-false, by-test, and-l, and-r}
-use Rattle.field.specs.Table.{profileOf, cellOf}
+use Rattle.field.specs.Table.{profileOf}
 use Rattle.field.specs.Values.{bytesOf}
 use Rattle.field.specs.Cells.{finished}
-use Rattle.field.specs.Sheet.{sizeOf, ownBytes, begun, finishedIn}
+use Rattle.field.specs.Sheet.{ownBytes, begun, finishedIn}
 use Rattle.field.specs.declared.kind.Kind.{Kind}
 use Rattle.field.specs.declared.kind.Kind.the-variants.{Integer, Counter, Time, Date, Switch, Option, Trigger}
 use Rattle.field.specs.declared.kind.ImagePlace.{ImagePlace}
@@ -27,35 +27,33 @@ use Rattle.field.proofs.Outcomes.{passedIn, partsIn, Facts, Says, up-says, down
 use Rattle.field.proofs.Apart.{LieApart, finished-beside, finished-read}
 use Rattle.cmf.specs.Grammar.{WellFormed}
 use Rattle.cmf.specs.Readers.{componentAt}
-use Rattle.cmf.specs.Places.{componentsFrom, componentsOf}
+use Rattle.cmf.specs.Places.{componentsOf}
 use Rattle.cmf.specs.declared.head.Head.{Head}
-use Rattle.walk.specs.Check.{refusalOf}
 use Rattle.walk.proofs.Acceptance.{accepted-exactly-when-well-formed, same-fields}
 use Rattle.walk.proofs.Fields.{others-apart, field-inside}
 use Rattle.walk.proofs.Reach.{part-of}
 use Rattle.session.specs.Events.{up, down, left, right, enter, second, lastDigitKey}
-use Rattle.session.specs.Fits.{cursorLine, cursorHead, among, workFits, visitFits, modeFits, sessionFits}
+use Rattle.session.specs.Fits.{cursorLine, cursorHead, workFits, visitFits, modeFits, sessionFits}
 use Rattle.session.specs.Steps.{taken, flash, withIdle, browsing, isFlash, isRefused}
 use Rattle.session.specs.Seconds.{browseSecond, entrySecond}
-use Rattle.session.specs.Browsing.{upStep, downStep, leftStep, descended, rightStep, foundNone, firstEditable, visitAt, enterStep, browseStep}
+use Rattle.session.specs.Browsing.{upStep, downStep, leftStep, descended, rightStep, visitAt, enterStep, browseStep}
 use Rattle.session.specs.Passwords.{lastDigit, digitStep, entryStep}
 use Rattle.session.specs.Visits.{pressed, nextEditable, movedOn, followed, followedSheet, visitStep, visitSheet}
 use Rattle.session.specs.Event.{stepIn, sheetIn}
 use Rattle.session.specs.declared.session.Mode.{Mode}
 use Rattle.session.specs.declared.session.Mode.the-variants as mode
 use Rattle.session.specs.declared.session.Session.{Session}
-use Rattle.session.specs.declared.browse.Found.{Found}
 use Rattle.session.specs.declared.step.Answer.{Answer}
 use Rattle.session.specs.declared.step.Answer.the-variants as answer
 use Rattle.session.specs.declared.step.Stepped.{Stepped}
 use Rattle.handset.specs.Event.{eventRefusal, refusedWith, eventStep, eventSheet}
 use Rattle.handset.proofs.Stepping.{refused-step, refused-sheet, stepped, stepped-sheet, EventGranted, event-granted}
-use Rattle.journal.specs.Journal.{answered, Out, on, stored, ignored, counts}
-use Rattle.journal.specs.Rules.{fieldAt, openerOf, outOf, pressedOut, startOf, rulesOf, IsField}
+use Rattle.journal.specs.Journal.{answered, on, ignored, counts}
+use Rattle.journal.specs.Rules.{fieldAt, openerOf, outOf, pressedOut, rulesOf, IsField}
 use Rattle.journal.specs.Sitting.{Sitting, sitting, next, answerTo}
 use Rattle.journal.proofs.Components.{own-place, editable-holds, among-in, EditableIn, first-editable-in, next-editable-in}
-use Rattle.journal.proofs.Reached.{CursorIn, cursor-line-in}
-use Rattle.journal.proofs.Steps.{View, away, at, System, isFinished, Kept, Fresh, none, Step, skips, quiet, opens, goes, passes, ends, Lawful}
+use Rattle.journal.proofs.Reached.{cursor-line-in}
+use Rattle.journal.proofs.Steps.{View, away, at, System, Fresh, none, Step, skips, quiet, opens, goes, passes, ends, Lawful}
 use Rattle.journal.proofs.Steps as steps
 
 -- ---- keys in a visit

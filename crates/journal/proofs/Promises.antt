@@ -28,11 +28,11 @@ use Rattle.handset.specs.OptionText.{reached, itemsIn, textRefusal, optionText}
 use Rattle.handset.specs.Draw.{drawRefusal, drawCursor, drawnPicture}
 use Rattle.handset.proofs.Ordering.{first-given, next-given, holding, failing, none-before, none-unless}
 use Rattle.handset.proofs.Stepping.{refused-step, refused-sheet, stepped, stepped-sheet}
-use Rattle.handset.proofs.Defaults.{Standing, all, others-stay}
+use Rattle.handset.proofs.Defaults.{all, others-stay}
 use Rattle.handset.proofs.Items.{item-is}
 use Rattle.journal.specs.Rules.{fieldAt, IsField, Beside}
 use Rattle.journal.specs.Sitting.{begunWith}
-use Rattle.journal.specs.Promises.{Demand1, Demand2, Demand3, Candidate, start, end, visitsAt, bytesAt}
+use Rattle.journal.specs.Promises.{Demand1, Demand2, Demand3, start}
 use Rattle.journal.proofs.Sittings.{formed, at-default, sheet-holds-journal, default-changed-by-own-visits, own-visits-finish, two-candidates}
 use Rattle.journal.proofs.Beside.{played-apart}
 use Rattle.journal.proofs.Protected.{only-after-its-digits, every-protected-line-was-opened-by-its-digits}

@@ -1,24 +1,20 @@
 -- The cursor line of a session that fits is a line of the image's derivation: from the top table on each level's table was reached.
 -- So what stands on it reads without fault, and its fields are the image's.
-use Prim.Native.Nat.{ℕ, zero, suc, _+_, _≤_, _<_}
-use mathlib.Core.Path.{_≡_, refl, sym, ap, _∙_, subst}
-use mathlib.Core.Bool.{Bool, true, false, true≢false, false≢true}
-use mathlib.Core.Logic.{_⊎_, inl, inr}
-use mathlib.Core.List.{List, [], _∷_, List·Memᴰ, List·Memᴰ·head, List·Memᴰ·tail, List·Memᴰ·cases-cons, List·Memᴰ·not-nil}
-use native.Mathlib.Omega.{arith}
-use lib.ListN.{length, take}
+use Prim.Native.Nat.{ℕ, zero, suc}
+use mathlib.Core.Path.{_≡_}
+use mathlib.Core.Bool.{true}
+use mathlib.Core.List.{List, [], _∷_}
+use lib.ListN.{take}
 use borrow.Author.Tests.{eqb-true, ltb-true}
-use Rattle.laws.specs.Choice.{if_then_else_, _and_, _=?_, _<?_}
-use Rattle.laws.proofs.Cases.{if-ind, if-true, if-false, by-test, and-l, and-r}
+use Rattle.laws.specs.Choice.{_and_}
+use Rattle.laws.proofs.Cases.{and-l, and-r}
 use Rattle.field.specs.declared.record.Field.{Field}
 use Rattle.cmf.specs.Limits.{prologBytes, deepestTable}
 use Rattle.cmf.specs.Grammar.{WellFormed}
-use Rattle.cmf.specs.Readers.{headAt, componentAt}
-use Rattle.cmf.specs.Places.{componentsFrom, componentsOf, lineCount}
+use Rattle.cmf.specs.Places.{lineCount}
 use Rattle.cmf.proofs.Agreeing.{agree}
-use Rattle.cmf.proofs.Onward.{component-onward}
-use Rattle.walk.proofs.Reach.{Reached, LineIn, PartIn, part-of, line-reached, no-levels, top-reached}
-use Rattle.session.specs.Fits.{cursorLine, cursorHead, levelFits, levelsFit, tablesFit, among, sessionFits}
+use Rattle.walk.proofs.Reach.{Reached, LineIn, line-reached, no-levels, top-reached}
+use Rattle.session.specs.Fits.{cursorLine, cursorHead, levelFits, levelsFit, tablesFit, sessionFits}
 use Rattle.session.specs.declared.session.Level.{Level}
 use Rattle.session.specs.declared.session.Session.{Session}
 

@@ -2,7 +2,6 @@
 -- each field's bytes are its default changed by its own finished visits (B), and two candidates with the same visits have the same bytes (C).
 use Prim.Native.Nat.{ℕ}
 use mathlib.Core.Path.{_≡_, refl, sym, ap, _∙_, subst}
-use mathlib.Core.Bool.{Bool, true}
 use mathlib.Core.List.{List, [], _∷_}
 use lib.ListN.{length}
 use Rattle.laws.specs.Choice.{_=?_}

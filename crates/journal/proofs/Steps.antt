@@ -1,12 +1,12 @@
 -- A system that answers events and keeps bytes, and what the theorem over lists asks of each of its steps: to be one of six cases.
-use Prim.Native.Nat.{ℕ, zero, suc}
+use Prim.Native.Nat.{ℕ, suc}
 use mathlib.Core.Path.{_≡_}
 use mathlib.Core.Logic.{_≢_}
 use mathlib.Core.Bool.{Bool, true, false}
 use mathlib.Core.List.{List, [], _∷_}
 use Rattle.session.specs.declared.step.Answer.{Answer}
 use Rattle.session.specs.declared.step.Answer.the-variants as answer
-use Rattle.journal.specs.Journal.{Answered, answered, Out, on, stored, Rules, counts, ignored}
+use Rattle.journal.specs.Journal.{Answered, answered, on, stored, Rules, counts, ignored}
 
 -- the open visit of a field: its place and working copy. Browsing, password entry and the visit of a trigger are `away`
 pub data View (W : Type 0) : Type 0 where

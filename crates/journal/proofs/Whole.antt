@@ -1,9 +1,9 @@
 -- The theorem over lists, once for every system whose steps are lawful. The invariant: each field's bytes are the journal's, and the keys
 -- on the trace since the ENTER that opened a visit lead from the field's bytes to the working copy.
-use Prim.Native.Nat.{ℕ, zero, suc}
+use Prim.Native.Nat.{ℕ, suc}
 use mathlib.Core.Path.{_≡_, refl, sym, ap, _∙_, subst}
 use mathlib.Core.Logic.{_≢_}
-use mathlib.Core.Bool.{Bool, true, false, true≢false}
+use mathlib.Core.Bool.{true, false, true≢false}
 use mathlib.Core.List.{List, [], _∷_, _++_, reverse, reverseAux, reverse-cons}
 use borrow.Author.Tests.{eqb-true, eqb-false}
 use Rattle.laws.specs.Choice.{if_then_else_, _=?_}
@@ -11,7 +11,7 @@ use Rattle.laws.proofs.Cases.{by-test, if-false}
 use Rattle.session.specs.Events.{enter}
 use Rattle.session.specs.declared.step.Answer.{Answer}
 use Rattle.session.specs.declared.step.Answer.the-variants as answer
-use Rattle.journal.specs.Journal.{Answered, answered, Out, on, stored, Rules, counts, ignored, keep, after, keysOf, onward, presses, leaves, visited, allVisited, Finishes, AllFinish, Journal, update, noted, finishedKeys, withVisit, settled, fed, allFed, empty, journalOf}
+use Rattle.journal.specs.Journal.{Answered, answered, Out, on, stored, Rules, counts, ignored, after, keysOf, onward, presses, leaves, visited, allVisited, Finishes, AllFinish, Journal, update, noted, finishedKeys, withVisit, settled, fed, allFed, empty, journalOf}
 use Rattle.journal.proofs.Steps.{View, away, at, System, isFinished, log, final, Kept, Fresh, none, begun, Step, skips, quiet, opens, goes, passes, ends, Lawful, Opened}
 
 -- a function that is `a` at p, and f elsewhere, is f updated

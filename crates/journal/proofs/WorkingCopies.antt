@@ -25,7 +25,6 @@ use Rattle.field.specs.declared.record.Field.{Field}
 use Rattle.field.specs.declared.work.Work.{Work}
 use Rattle.field.specs.declared.keys.Pressed.{Pressed}
 use Rattle.field.specs.declared.keys.Outcome.{Outcome}
-use Rattle.field.specs.declared.keys.Outcome.the-variants as outcome
 use Rattle.field.proofs.Kept.{Legal, legal-bool, up-legal, down-legal, left-legal, right-legal, digit-legal, enter-legal}
 use Rattle.field.proofs.Trip.{started-legal}
 use Rattle.cmf.specs.Readers.{kindAt, fieldBy, componentAt}

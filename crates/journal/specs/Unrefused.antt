@@ -8,7 +8,6 @@ use lib.ListN.{length}
 use Rattle.session.specs.Steps.{isRefused}
 use Rattle.session.specs.Events.{second}
 use Rattle.session.specs.Fits.{sessionFits}
-use Rattle.session.specs.declared.session.Session.{Session}
 use Rattle.handset.specs.Event.{eventRefusal}
 use Rattle.handset.specs.Draw.{drawRefusal}
 use Rattle.journal.specs.Sitting.{Sitting, answerTo}

@@ -1,18 +1,18 @@
 -- Bytes written at a place: parts beside them stay, they are read back, and a lent part may do the writing.
-use Prim.Native.Nat.{ℕ, zero, suc, _+_, _-_, _≤_, _<_}
-use mathlib.Core.Path.{_≡_, refl, sym, ap, _∙_}
-use mathlib.Core.Bool.{Bool, true, false}
+use Prim.Native.Nat.{ℕ, suc, _+_, _-_, _≤_, _<_}
+use mathlib.Core.Path.{_≡_, refl, ap, _∙_}
+use mathlib.Core.Bool.{true, false}
 use mathlib.Core.Logic.{_⊎_, inl, inr}
-use mathlib.Core.List.{List, [], _∷_, _++_, append-assoc}
+use mathlib.Core.List.{List, _++_, append-assoc}
 use native.Mathlib.Omega.{arith}
 use native.Mathlib.Nat.{le-of-lt, zero-add}
 use native.Mathlib.Numerals.{add-one}
 use lib.ListN.{length, take, drop, set, getD, length-append, length-drop, take-append-drop}
 use lib.Seq.{take-at, drop-at, set-at, length-take-le, drop-drop, drop-cons, take-suc, append-snoc}
-use borrow.Author.Tests.{leb-true, leb-false, le-leb, lt-leb}
-use Rattle.laws.specs.Choice.{if_then_else_, _≤?_}
+use borrow.Author.Tests.{leb-true, leb-false}
+use Rattle.laws.specs.Choice.{_≤?_}
 use Rattle.laws.specs.Parts.{partAt, putAt}
-use Rattle.laws.proofs.Cases.{if-ind, if-true, if-le, if-gt, by-test}
+use Rattle.laws.proofs.Cases.{if-ind, if-le, if-gt, by-test}
 use Rattle.laws.proofs.Lists.{part-before, part-after, part-tail, tail-back}
 
 module _ (at : ℕ) (b s : List ℕ) where

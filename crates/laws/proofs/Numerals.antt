@@ -1,7 +1,7 @@
 -- Digits to a base: the number of a number's digits is the number, the digits of a number of digits are those digits; once over base and count.
 use Prim.Native.Nat.{ℕ, zero, suc, _+_, _-_, _*_, _/_, _%_, _^_, _<_, _≤_}
 use mathlib.Core.Path.{_≡_, refl, sym, ap, _∙_}
-use mathlib.Core.List.{List, [], _∷_, _++_, reverse, reverseAux, reverse-append, reverse-cons, reverse-reverse}
+use mathlib.Core.List.{List, [], _∷_, _++_, reverse, reverseAux, reverse-append, reverse-reverse}
 use native.Mathlib.Nat.{div-add-mod', div-lt-iff-lt-mul, mod-lt, pow-suc, pow-succ', pow-zero, pow-le-pow-right, mul-le-mul-right, mul-assoc, lt-of-lt-of-le, mul-add-div-right, mul-add-mod-self-right, div-eq-of-lt, mod-eq-of-lt, add-zero, div-one, div-div-eq-div-mul}
 use native.Mathlib.Numerals.{add-one}
 use native.Mathlib.Omega.{arith}

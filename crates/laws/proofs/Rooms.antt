@@ -6,7 +6,7 @@ use native.Mathlib.Omega.{arith}
 use borrow.Author.Tests.{leb-true, le-leb}
 use Rattle.laws.specs.Choice.{if_then_else_, _≤?_}
 use Rattle.laws.specs.Bytes.{room}
-use Rattle.laws.proofs.Cases.{if-ind, if-le}
+use Rattle.laws.proofs.Cases.{if-ind}
 
 pub room-le : (len at n : ℕ) → room len at n ≡ true → at + n ≤ len
 unfolding room

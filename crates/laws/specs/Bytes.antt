@@ -1,8 +1,8 @@
 -- Bytes of a list at a place, whatever the place: 0 past the end.
 use Prim.Native.Nat.{ℕ, _+_, _-_, _*_}
-use mathlib.Core.Bool.{Bool, true, false}
+use mathlib.Core.Bool.{Bool, false}
 use mathlib.Core.List.{List}
-use lib.ListN.{length, getD}
+use lib.ListN.{getD}
 use Rattle.laws.specs.Choice.{if_then_else_, _≤?_}
 
 -- the byte at a place

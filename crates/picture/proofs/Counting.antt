@@ -1,10 +1,9 @@
 -- The edit cursor: cells counted up to where no display reaches, and one turn of the loop over a line's components.
 use Prim.Native.Nat.{ℕ, zero, suc, _+_, _-_, _≤_, _<_, min}
-use mathlib.Core.Path.{_≡_, refl, sym, ap, _∙_}
+use mathlib.Core.Path.{_≡_, ap, _∙_}
 use mathlib.Core.Bool.{Bool, true, false}
-use mathlib.Core.List.{List, [], _∷_}
+use mathlib.Core.List.{List, []}
 use native.Mathlib.Omega.{arith}
-use lib.ListN.{length}
 use Rattle.laws.specs.Choice.{if_then_else_, _=?_}
 use Rattle.laws.proofs.Cases.{if-true, if-false, if-eq, if-ne, if-max}
 use Rattle.cmf.specs.Readers.{componentAt}

@@ -1,7 +1,6 @@
 -- The picture that 01 prints, by computation: the image written out for it, as Open leaves sheet and session.
 use Prim.Native.Nat.{ℕ}
 use mathlib.Core.Path.{_≡_, refl}
-use mathlib.Core.Bool.{true, false}
 use mathlib.Core.List.{List, [], _∷_}
 use Rattle.laws.specs.Choice.{if_then_else_, _and_}
 use Rattle.laws.specs.Bytes.{wordAt, room}

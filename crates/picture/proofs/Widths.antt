@@ -2,13 +2,13 @@
 use Prim.Native.Nat.{ℕ, zero, suc, _+_, _-_, _≤_, _<_}
 use mathlib.Core.Path.{_≡_, refl, sym, ap, _∙_}
 use mathlib.Core.Bool.{Bool, true, false}
-use mathlib.Core.List.{List, [], _∷_, _++_}
+use mathlib.Core.List.{List, [], _∷_}
 use native.Mathlib.Omega.{arith}
 use lib.ListN.{length, getD, replicate, take, drop, length-append, length-replicate, length-take}
 use borrow.Author.Tests.{leb-true, eqb-true, eqb-false, ltb-true, ltb-false}
-use Rattle.laws.specs.Choice.{if_then_else_, _and_, _=?_, _<?_, _≤?_}
+use Rattle.laws.specs.Choice.{if_then_else_, _and_, _=?_, _<?_}
 use Rattle.laws.proofs.Cases.{if-ind, by-test, if-lt, if-ge, if-max, and-l, and-r}
-use Rattle.field.specs.Formats.{signsOf, digitsIn, numeralOf, bitsIn, bitsOf}
+use Rattle.field.specs.Formats.{signsOf, numeralOf, bitsOf}
 use Rattle.field.specs.Table.{profileOf, cellOf}
 use Rattle.field.specs.Cells.{within, legalTo, legal}
 use Rattle.field.specs.Settings.{places, countedCells, widthFits, goodSettings, settingsFit}

@@ -1,6 +1,6 @@
 -- What a component shows (01, Fields and Picture): the text of each kind, cell by cell of the display.
 use Prim.Native.Nat.{ℕ, zero, suc, _+_, _-_, _/_, _%_}
-use mathlib.Core.Bool.{Bool, true, false}
+use mathlib.Core.Bool.{Bool, false}
 use mathlib.Core.List.{List, [], _∷_, _++_}
 use lib.ListN.{length, getD, replicate}
 use Rattle.laws.specs.Choice.{if_then_else_, _=?_, _<?_}
@@ -13,7 +13,6 @@ use Rattle.field.specs.declared.kind.Kind.{Kind}
 use Rattle.field.specs.declared.kind.Kind.the-variants.{Integer, Counter, Time, Date, Switch, Option, Trigger}
 use Rattle.field.specs.declared.numeral.Numeral.{Numeral}
 use Rattle.field.specs.declared.record.Field.{Field}
-use Rattle.field.specs.declared.work.Work.{Work}
 use Rattle.cmf.specs.Readers.{textBytes, itemPlace}
 use Rattle.cmf.specs.declared.component.Component.{Component}
 use Rattle.session.specs.Passwords.{digit0}

@@ -1,13 +1,13 @@
 -- Password entries and seconds, from what the callees ensure; one turn of the loop that compares digits.
 use Prim.Native.Nat.{ℕ, zero, suc, _+_, _≤_, _<_}
-use mathlib.Core.Path.{_≡_, refl, sym, ap, _∙_}
+use mathlib.Core.Path.{_≡_, sym, _∙_}
 use mathlib.Core.Bool.{Bool, true, false}
 use mathlib.Core.List.{List}
 use native.Mathlib.Omega.{arith}
 use native.Mathlib.Decide.{ℕ-discrete}
 use lib.ListN.{length, getD, set}
 use borrow.Author.Tests.{eq-eqb, ne-eqb}
-use Rattle.laws.specs.Choice.{if_then_else_, _and_, _=?_, _<?_}
+use Rattle.laws.specs.Choice.{_and_, _=?_}
 use Rattle.laws.specs.Bytes.{byteAt}
 use Rattle.laws.proofs.Lists.{byte-past}
 use Rattle.laws.proofs.Cases.{if-true, if-false, if-lt, if-ge, and-i, and-false}

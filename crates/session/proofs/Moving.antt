@@ -1,12 +1,12 @@
 -- The keys of browsing, from what the callees ensure; over variables, so that a proof cites one line.
 use Prim.Native.Nat.{ℕ, zero, suc, _+_, _-_, _≤_, _<_}
-use mathlib.Core.Path.{_≡_, refl, sym, ap, _∙_}
-use mathlib.Core.Bool.{Bool, true, false}
-use mathlib.Core.List.{List, [], _∷_}
+use mathlib.Core.Path.{_≡_, sym, ap, _∙_}
+use mathlib.Core.Bool.{true, false}
+use mathlib.Core.List.{List, []}
 use native.Mathlib.Omega.{arith}
-use lib.ListN.{length, getD, set}
-use Rattle.laws.specs.Choice.{if_then_else_, _=?_, _<?_}
-use Rattle.laws.proofs.Cases.{if-ind, if-true, if-false, if-eq, if-ne}
+use lib.ListN.{length}
+use Rattle.laws.specs.Choice.{if_then_else_, _<?_}
+use Rattle.laws.proofs.Cases.{if-ind, if-true, if-false}
 use Rattle.field.specs.Sheet.{begun}
 use Rattle.field.specs.declared.work.Work.{Work}
 use Rattle.cmf.specs.Readers.{headAt, componentAt}
@@ -15,7 +15,7 @@ use Rattle.cmf.specs.declared.component.Component.{Component}
 use Rattle.cmf.specs.declared.head.Head.{Head}
 use Rattle.session.specs.Fits.{cursorHead}
 use Rattle.session.specs.Steps.{taken, flash, doing, entering}
-use Rattle.session.specs.Browsing.{firstFor, cursorOn, downStep, descended, rightStep, foundNone, firstEditable, lineFromHere, visitAt, enterStep}
+use Rattle.session.specs.Browsing.{cursorOn, downStep, descended, rightStep, foundNone, firstEditable, lineFromHere, visitAt, enterStep}
 use Rattle.session.specs.declared.session.Mode.the-variants as mode
 use Rattle.session.specs.declared.session.Session.{Session}
 use Rattle.session.specs.declared.step.Stepped.{Stepped}

@@ -9,7 +9,7 @@ use lib.Seq.{drop-cons, getD-take}
 use borrow.Author.Tests.{le-leb, lt-leb, lt-ltb, le-ltb, eq-eqb, ne-eqb}
 use native.Mathlib.Decide.{ℕ-discrete}
 use Rattle.laws.specs.Choice.{if_then_else_, _and_, _≤?_, _<?_}
-use Rattle.laws.proofs.Cases.{if-eq, if-ne, if-true, if-false, and-true, and-false, and-i, and-second}
+use Rattle.laws.proofs.Cases.{if-eq, if-ne, and-true, and-false, and-i, and-second}
 use Rattle.cmf.specs.Readers.{headAt, componentAt}
 use Rattle.cmf.specs.Places.{componentsFrom, lineCount}
 use Rattle.cmf.specs.declared.component.Component.{Component}

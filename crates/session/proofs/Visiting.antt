@@ -1,17 +1,13 @@
 -- A visit's keys and what follows from them, from what the callees ensure; over variables, so that a proof cites one line.
 use Prim.Native.Nat.{ℕ, _≤_, _<_}
-use mathlib.Core.Path.{_≡_, refl, sym, ap, _∙_}
-use mathlib.Core.Bool.{Bool, true, false}
+use mathlib.Core.Path.{_≡_, sym, ap, _∙_}
+use mathlib.Core.Bool.{true, false}
 use mathlib.Core.List.{List}
-use native.Mathlib.Omega.{arith}
-use Rattle.laws.specs.Choice.{if_then_else_, _=?_}
 use Rattle.laws.proofs.Cases.{if-true, if-false, if-eq, if-ne, if-le, if-gt}
 use Rattle.field.specs.Table.{profileOf, cellOf}
 use Rattle.field.specs.Keys.{digitKey, flash}
-use Rattle.field.specs.Sheet.{finishedIn}
 use Rattle.field.specs.declared.kind.Kind.{Kind}
 use Rattle.field.specs.declared.kind.ImagePlace.{ImagePlace}
-use Rattle.field.specs.declared.record.Field.{Field}
 use Rattle.field.specs.declared.work.Work.{Work}
 use Rattle.field.specs.declared.keys.Pressed.{Pressed}
 use Rattle.cmf.specs.Readers.{componentAt}

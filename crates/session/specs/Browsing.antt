@@ -1,6 +1,6 @@
 -- 01, Keys, browsing: one definition a key.
 use Prim.Native.Nat.{ℕ, _+_, _-_}
-use mathlib.Core.Bool.{Bool, true, false}
+use mathlib.Core.Bool.{true, false}
 use mathlib.Core.List.{List, [], _∷_}
 use lib.ListN.{length, getD, set}
 use Rattle.laws.specs.Choice.{if_then_else_, _=?_, _<?_}
@@ -13,7 +13,6 @@ use Rattle.session.specs.Fits.{cursorHead}
 use Rattle.session.specs.Steps.{taken, flash, withIdle, showing, withHere, visiting, entering}
 use Rattle.session.specs.Seconds.{browseSecond}
 use Rattle.session.specs.Events.{up, down, left, right, enter, second}
-use Rattle.session.specs.declared.session.Level.{Level}
 use Rattle.session.specs.declared.session.Session.{Session}
 use Rattle.session.specs.declared.step.Stepped.{Stepped}
 use Rattle.session.specs.declared.browse.Found.{Found}

@@ -1,6 +1,6 @@
 -- The session as Open makes it, and the closed one (01, The four calls).
 use Prim.Native.Nat.{ℕ}
-use mathlib.Core.List.{List, [], _∷_}
+use mathlib.Core.List.{[], _∷_}
 use lib.ListN.{replicate}
 use Rattle.field.specs.declared.work.Work.{Work}
 use Rattle.cmf.specs.Limits.{prologBytes}

@@ -1,6 +1,5 @@
 -- 01, Keys, a visit: what a key makes of the working copy, and what follows from it for session and sheet.
 use Prim.Native.Nat.{ℕ}
-use mathlib.Core.Bool.{true, false}
 use mathlib.Core.List.{List}
 use Rattle.laws.specs.Choice.{if_then_else_, _=?_, _≤?_}
 use Rattle.field.specs.Table.{profileOf, cellOf}

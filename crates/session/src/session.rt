@@ -1,6 +1,6 @@
 // The session's record, the event numbers, and the closed session.
 ghost use mathlib.Core.Path.{_≡_};
-ghost use Rattle.session.specs.Session.{noLevel, blank, closed, opened};
+ghost use Rattle.session.specs.Session.{closed, opened};
 use cmf::image::Image;
 use field::kind::ImagePlace;
 use field::work::Work;

@@ -1,7 +1,7 @@
 -- 01's starred cases of refusals by the definition alone, with no check: nine bytes are 2, a prolog and nothing behind it 6, the other byte order 5.
 -- Every fact about the bytes is a computation.
-use Prim.Native.Nat.{ℕ, _+_, _≤_, _<_}
-use mathlib.Core.Path.{_≡_, refl}
+use Prim.Native.Nat.{ℕ, _≤_}
+use mathlib.Core.Path.{refl}
 use mathlib.Core.List.{List, [], _∷_}
 use lib.Dec.{lit≤}
 use native.Mathlib.Omega.{arith}

@@ -1,6 +1,6 @@
 -- The loop: the lines counted and those from here on are all of the table.
 use native.Mathlib.Omega.{arith}
-use Prim.Native.Nat.{ℕ, _+_, _-_}
+use Prim.Native.Nat.{_+_, _-_}
 use mathlib.Core.Path.{_≡_, sym, _∙_}
 use lib.ListN.{length}
 use Rattle.cmf.specs.Places.{linesFrom, linesOf, lineCount}

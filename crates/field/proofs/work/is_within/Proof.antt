@@ -2,7 +2,6 @@
 use Rattle.laws.specs.Choice.{_and_}
 use borrow.Author.Tests.{le-leb, lt-leb}
 use Rattle.field.specs.Cells.{within}
-use borrow.Author.Needs.{needs}
 use Rattle.field.proofs.work.is_within.Statement.{statement}
 use Rattle.field.proofs.work.is_within.Tie as tie
 

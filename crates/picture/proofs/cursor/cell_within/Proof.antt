@@ -1,8 +1,5 @@
 -- Each kind has its case.
-use Prim.Native.Nat.{_≤_, _<_}
 use native.Mathlib.Omega.{arith}
-use mathlib.Core.Path.{_≡_}
-use Rattle.picture.specs.Texts.{yearCells}
 use Rattle.picture.specs.Cursor.{cellWithin}
 use Rattle.picture.proofs.Counting.{year-short, part-near}
 use borrow.Author.Needs.{needs}

@@ -1,7 +1,7 @@
 -- The loop: what is counted so far and the cells from here on are all of them, up to the end of counting.
 use Prim.Native.Nat.{_+_, _≤_, min}
 use native.Mathlib.Omega.{arith}
-use mathlib.Core.Path.{_≡_, refl, sym, _∙_}
+use mathlib.Core.Path.{_≡_, _∙_}
 use borrow.Author.Needs.{needs}
 use Rattle.cmf.specs.Places.{componentsFrom, componentsOf}
 use Rattle.picture.specs.Cursor.{cellsBefore}

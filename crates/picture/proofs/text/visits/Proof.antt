@@ -1,5 +1,4 @@
 -- Each return is the case of the definition that the tests on its path choose.
-use mathlib.Core.Path.{sym}
 use Rattle.picture.specs.Texts.{visiting}
 use borrow.Author.Needs.{needs}
 use Rattle.picture.proofs.text.visits.Statement.{statement}

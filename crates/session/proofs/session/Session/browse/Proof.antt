@@ -1,5 +1,4 @@
 -- Each arm is the case of the definition that its number chooses.
-use mathlib.Core.Path.{_∙_}
 use Rattle.laws.specs.Choice.{if_then_else_}
 use Rattle.laws.proofs.Cases.{tests}
 use Rattle.session.specs.Browsing.{browseStep}

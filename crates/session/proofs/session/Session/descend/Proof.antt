@@ -1,6 +1,5 @@
 -- Each return is the case of the definition that the tests on its path choose.
 use mathlib.Core.Path.{sym, _∙_}
-use native.Mathlib.Omega.{arith}
 use Rattle.laws.proofs.Cases.{if-lt, if-ge}
 use Rattle.session.specs.Browsing.{descended}
 use borrow.Author.Needs.{needs}

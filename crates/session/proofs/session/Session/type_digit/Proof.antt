@@ -1,6 +1,5 @@
 -- What the callees ensure, put together.
 use mathlib.Core.Path.{_∙_}
-use native.Mathlib.Omega.{arith}
 use Rattle.session.proofs.Entering.{digit-more, digit-last}
 use borrow.Author.Needs.{needs}
 use Rattle.session.proofs.session.Session.type_digit.Statement.{statement}
