@@ -110,15 +110,6 @@ module _ (w : ℕ) (xs d : List ℕ) (i p : ℕ) where
   unfolding numbersBytes
   numbers-done h = rw (drop-of-length-le xs {i = i} h) (over-nil d p)
 
--- ---- a list copied, from the first element on
-
-module _ (xs d : List ℕ) (i : ℕ) where
-  pub copy-turn : i < length xs → over (set d i (getD xs i 0)) (i + 1) (drop (i + 1) xs) ≡ over d i (drop i xs)
-  copy-turn h = rw (drop-cons xs i 0 h, add-one) (byte-first d i (getD xs i 0) (drop (suc i) xs))
-
-  pub copy-done : length xs ≤ i → over d i (drop i xs) ≡ d
-  copy-done h = rw (drop-of-length-le xs {i = i} h) (over-nil d i)
-
 -- ---- several numbers read, from the first on
 
 module _ (w n : ℕ) (bs : List ℕ) where

@@ -1,4 +1,5 @@
--- The defaults of an image's fields, written on the way through its tables: a line's components before its submenu, lines in order.
+-- 01, The four calls: Open writes each field's default. Here on the way through the tables: a line's components before its submenu, lines in order. On an
+-- accepted image these are the defaults of the check's fields, which Open's contract speaks of (`proofs/Filled`).
 use Prim.Native.Nat.{ℕ, zero, suc}
 use mathlib.Core.List.{List, [], _∷_}
 use Rattle.laws.specs.Choice.{if_then_else_}
@@ -21,6 +22,7 @@ module _ (im : List ℕ) where
         if headAt im p .submenu then submenu (headAt im p .table) (componentDefaults (componentsOf im p) s)
         else componentDefaults (componentsOf im p) s
 
+    -- of lines one after another
     unfoldable pub linesDefaults : List ℕ → List ℕ → List ℕ
     linesDefaults [] s = s
     linesDefaults (p ∷ ps) s = linesDefaults ps (lineDefaults p s)

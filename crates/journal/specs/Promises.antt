@@ -102,7 +102,7 @@ pub record Demand2 : Type 0 where
   pub protected : (im sheet : List ℕ) (columns lines : ℕ) (es : List ℕ) (e : ℕ) → let t = played im (begunWith im sheet columns lines) es in
       cursorHead im (t .session .here) .protected ≡ true → t .session .outer < next im t e .session .outer
       → OpenedByDigits im (begunWith im sheet columns lines) es e (t .session .outer) (t .session .here)
-  -- so each protected line above the shown table was opened by its digits, and what is below it has been shown since
+  -- so each protected line above the shown table was opened by its digits, and the session has stayed below it since
   pub unlocked : (im sheet : List ℕ) (columns lines : ℕ) (es : List ℕ) (k : ℕ) →
       let s = played im (begunWith im sheet columns lines) es .session in
       let l = getD (s .above) k noLevel in

@@ -68,7 +68,7 @@ among p (q ∷ qs) = if q =? p then true else among p qs
 unfoldable pub workFits : Kind → Work → Bool
 workFits k w = (w .at <? profileOf k .cells) and (if profileOf k .fires then true else legal k (w .cells))
 
--- an open visit, with its working copy, is of an editable field or trigger on the cursor line, which stands at a place
+-- an open visit, with working copy w, is of an editable field or trigger on the cursor line; `line` is where that line stands, here and below
 unfoldable pub visitFits : List ℕ → ℕ → Work → ℕ → Bool
 visitFits im line w p =
     among p (componentsOf im line)
