@@ -12,12 +12,12 @@ use Rattle.laws.proofs.Cases.{if-ind, and-l, and-r}
 use Rattle.field.specs.declared.kind.ImagePlace.{ImagePlace}
 use Rattle.field.specs.declared.record.Field.{Field}
 use Rattle.field.specs.declared.work.Work.{Work}
-use Rattle.field.specs.declared.keys.Outcome.{Outcome}
-use Rattle.field.specs.declared.keys.Outcome.the-variants as outcome
+use Rattle.keys.specs.declared.press.Outcome.{Outcome}
+use Rattle.keys.specs.declared.press.Outcome.the-variants as outcome
 use Rattle.cmf.specs.Readers.{componentAt}
 use Rattle.cmf.specs.declared.component.Component.{Component}
-use Rattle.walk.specs.Check.{refusalOf}
-use Rattle.walk.proofs.Acceptance.{accepted-exactly-when-well-formed}
+use Rattle.acceptance.specs.Check.{refusalOf}
+use Rattle.acceptance.proofs.Acceptance.{accepted-exactly-when-well-formed}
 use Rattle.session.specs.Steps.{isRefused, taken, flash}
 use Rattle.session.specs.Seconds.{browseSecond, entrySecond}
 use Rattle.session.specs.Browsing.{upStep, downStep, leftStep, descended, rightStep, enterStep, browseStep}

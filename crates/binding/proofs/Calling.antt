@@ -10,7 +10,7 @@ use borrow.Author.Tests.{eq-eqb, ne-eqb, eqb-true}
 use Rattle.laws.specs.Choice.{_=?_, _<?_}
 use Rattle.laws.specs.Bytes.{byteAt}
 use Rattle.laws.proofs.Cases.{if-ind, if-eq, if-ne}
-use Rattle.walk.specs.Check.{refusalOf}
+use Rattle.acceptance.specs.Check.{refusalOf}
 use Rattle.cmf.specs.Readers.{itemFrom, itemPlace}
 use Rattle.session.specs.Session.{closed}
 use Rattle.session.specs.Fits.{shapeFits, sessionFits}

@@ -22,9 +22,9 @@ use handset::open::open;
 use handset::option::option_text;
 use handset::refusal::NO_SHAPE;
 use handset::refusal::session_refusal;
+use quick::accept::refusal_of;
 use session::fits::shape_fits;
 use session::session::Session;
-use walk::accept::refusal_of;
 
 const REFUSED_TEXT: u64 = 4294967296;
 

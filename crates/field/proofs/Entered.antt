@@ -26,7 +26,7 @@ use Rattle.field.specs.declared.kind.Kind.the-variants.{Integer, Counter
 use Rattle.field.specs.declared.table.Cell.{Cell}
 use Rattle.field.specs.declared.work.Work.{Work}
 use Rattle.field.proofs.Bounds.{format-sound, bits-sound, limit-bytes}
-use Rattle.field.proofs.Kept.{LegalCells, legal-bool, same-legal}
+use Rattle.field.proofs.Legal.{LegalCells, legal-bool, same-legal}
 use Rattle.field.proofs.Ranges.{DigitCells, range-of-integer, range-of-switch, switch-digits}
 use Rattle.field.proofs.Trip.{spans-up, spans-down, finished-bytes}
 

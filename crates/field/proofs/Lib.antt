@@ -1,13 +1,10 @@
 pub mod Bounds
 pub mod Padded
-pub mod Parts
-pub mod Kept
+pub mod Legal
 pub mod Ranges
 pub mod Trip
 pub mod Entered
 pub mod Shown
 pub mod Apart
-pub mod Outcomes
 pub mod Counted
-pub mod Worked
 pub mod Fitting

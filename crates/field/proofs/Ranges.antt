@@ -23,7 +23,7 @@ use Rattle.field.specs.declared.kind.Kind.the-variants.{Integer, Counter
 use Rattle.field.specs.declared.kind.CounterSettings.{CounterSettings}
 use Rattle.field.specs.declared.table.Cell.{Cell}
 use Rattle.field.proofs.Bounds.{base-ge, format-sound, bits-sound}
-use Rattle.field.proofs.Kept.{Within, LegalCells, legal-bool}
+use Rattle.field.proofs.Legal.{Within, LegalCells, legal-bool}
 
 -- ---- by computation
 

@@ -20,7 +20,7 @@ use Rattle.field.specs.declared.numeral.Numeral.{Numeral}
 use Rattle.field.specs.declared.kind.Kind.{Kind}
 use Rattle.field.specs.declared.kind.Kind.the-variants.{Integer, Counter, Time, Date, Switch, Option, Trigger}
 use Rattle.field.proofs.Bounds.{format-sound, bits-sound}
-use Rattle.field.proofs.Kept.{LegalCells}
+use Rattle.field.proofs.Legal.{LegalCells}
 use Rattle.field.proofs.Ranges.{DigitCells, sign-at, digit-at, integer-digits, switch-digits}
 use Rattle.field.proofs.Trip.{distance-up, distance-down, sign-up, sign-down, work-at}
 use Rattle.field.proofs.Entered.{by-sign, digits-below, Fitting, parts-again, switch-stores}

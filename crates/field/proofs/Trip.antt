@@ -27,7 +27,7 @@ use Rattle.field.specs.declared.kind.Kind.the-variants.{Integer, Counter
 use Rattle.field.specs.declared.work.Work.{Work}
 use Rattle.field.specs.declared.value.Value.{Value}
 use Rattle.field.proofs.Bounds.{format-sound, bits-sound, profile-bytes, profile-cells}
-use Rattle.field.proofs.Kept.{Legal, legal-true, same-legal}
+use Rattle.field.proofs.Legal.{Legal, legal-true, same-legal}
 use Rattle.field.proofs.Ranges.{front, length-front, length-cells, sign-at}
 
 -- ---- numbers in digits

@@ -4,5 +4,4 @@ pub mod Values
 pub mod Cells
 pub mod Sound
 pub mod Settings
-pub mod Keys
 pub mod Sheet

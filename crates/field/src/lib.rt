@@ -1,5 +1,4 @@
-// What a field of a menu image is, without the image: kinds and settings, ranges, the cells of a visit, keys, bytes in the sheet.
-pub mod keys;
+// What a field of a menu image is, without the image: kinds and settings, ranges, the cells of a visit, bytes in the sheet.
 pub mod kind;
 pub mod numeral;
 pub mod record;

@@ -31,10 +31,10 @@ use Rattle.cmf.specs.Places.{lineCount}
 use Rattle.cmf.specs.declared.component.Component as read
 use Rattle.cmf.proofs.Agreement.{fieldsOf}
 use Rattle.cmf.proofs.Agreeing.{agree}
-use Rattle.walk.specs.Check.{entryOf, checked}
-use Rattle.walk.proofs.Acceptance.{counted}
-use Rattle.walk.proofs.Fields.{every-table, every-in, others-apart, field-inside}
-use Rattle.walk.proofs.Reach.{some-line}
+use Rattle.acceptance.specs.Check.{entryOf, checked}
+use Rattle.acceptance.proofs.Acceptance.{counted}
+use Rattle.acceptance.proofs.Fields.{every-table, every-in, others-apart, field-inside}
+use Rattle.acceptance.proofs.Reach.{some-line}
 use Rattle.session.specs.Session.{opened}
 use Rattle.session.specs.Fits.{shapeFits, levelFits, levelsFit, tablesFit, modeFits, sessionFits}
 use Rattle.handset.specs.Open.{defaultsWritten}

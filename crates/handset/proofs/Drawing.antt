@@ -8,7 +8,7 @@ use lib.ListN.{length}
 use borrow.Author.Tests.{eqb-true}
 use Rattle.laws.specs.Choice.{_=?_}
 use Rattle.laws.proofs.Cases.{if-eq, if-ne, and-l}
-use Rattle.walk.specs.Check.{refusalOf}
+use Rattle.acceptance.specs.Check.{refusalOf}
 use Rattle.session.specs.Fits.{shapeFits, sessionFits}
 use Rattle.session.specs.declared.session.Session.{Session}
 use Rattle.picture.specs.Rows.{pictureOf, filled}

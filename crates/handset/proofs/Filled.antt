@@ -14,9 +14,9 @@ use Rattle.cmf.specs.Readers.{headAt, laidOut, componentBy, componentAt}
 use Rattle.cmf.specs.Places.{linesOf, componentsOf}
 use Rattle.cmf.specs.declared.head.Head.{Head}
 use Rattle.cmf.specs.declared.component.Component.{Component}
-use Rattle.walk.specs.declared.index.Entry.{Entry}
-use Rattle.walk.specs.Check.{State, fine, takeField, takeComponent, onComponent, onComponents, onSubmenu, onBody, onHead, onTitle, onLine, onLines, onTable, start, walked, prologCode, checked, refusalOf}
-use Rattle.walk.proofs.Stood.{code-refused, is-refused, then-fine}
+use Rattle.acceptance.specs.declared.index.Entry.{Entry}
+use Rattle.acceptance.specs.Check.{State, fine, takeField, takeComponent, onComponent, onComponents, onSubmenu, onBody, onHead, onTitle, onLine, onLines, onTable, start, walked, prologCode, checked, refusalOf}
+use Rattle.acceptance.proofs.Stood.{code-refused, is-refused, then-fine}
 use Rattle.handset.specs.Open.{defaultsWritten}
 use Rattle.handset.specs.Fill.{componentDefaults, lineDefaults, linesDefaults, tableDefaults, imageDefaults}
 

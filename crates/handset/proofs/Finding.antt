@@ -8,9 +8,9 @@ use native.Mathlib.Decide.{ℕ-discrete}
 use Rattle.laws.specs.Choice.{if_then_else_, _and_, _=?_, _<?_}
 use Rattle.laws.proofs.Cases.{if-ind, if-eq, if-ne}
 use Rattle.cmf.specs.Readers.{itemPlace, textBytes, componentAt}
-use Rattle.walk.specs.Check.{State, checked, refusalOf}
-use Rattle.walk.specs.Index.{entryAt, listed}
-use Rattle.walk.specs.declared.index.Entry.{Entry}
+use Rattle.acceptance.specs.Check.{State, checked, refusalOf}
+use Rattle.acceptance.specs.Index.{entryAt, listed}
+use Rattle.acceptance.specs.declared.index.Entry.{Entry}
 use Rattle.handset.specs.Refusals.{_before_, _unless_}
 use Rattle.handset.specs.OptionText.{reached, itemsIn, textRefusal, optionText}
 

@@ -19,9 +19,9 @@ use Rattle.cmf.specs.Readers.{itemFrom, itemPlace, textBytes, componentAt}
 use Rattle.cmf.specs.declared.component.Component as read
 use Rattle.cmf.proofs.Agreement.{fieldsOf}
 use Rattle.cmf.proofs.Agreeing.{agree}
-use Rattle.walk.specs.Check.{entryOf, checked, refusalOf}
-use Rattle.walk.proofs.Acceptance.{accepted-exactly-when-well-formed, counted}
-use Rattle.walk.proofs.Fields.{every-table}
+use Rattle.acceptance.specs.Check.{entryOf, checked, refusalOf}
+use Rattle.acceptance.proofs.Acceptance.{accepted-exactly-when-well-formed, counted}
+use Rattle.acceptance.proofs.Fields.{every-table}
 use Rattle.handset.specs.OptionText.{reached, itemsIn, textRefusal, optionText, ItemIs}
 use Rattle.handset.proofs.Ordering.{none-before, none-unless}
 use Rattle.handset.proofs.Finding.{text-some}

@@ -6,7 +6,7 @@ use mathlib.Core.List.{List}
 use native.Mathlib.Omega.{arith}
 use lib.ListN.{length}
 use Rattle.laws.proofs.Cases.{if-eq, if-ne}
-use Rattle.walk.specs.Check.{refusalOf}
+use Rattle.acceptance.specs.Check.{refusalOf}
 use Rattle.session.specs.Session.{opened, closed}
 use Rattle.session.specs.Fits.{shapeFits}
 use Rattle.session.specs.declared.session.Session.{Session}

@@ -7,7 +7,7 @@ use native.Mathlib.Omega.{arith}
 use borrow.Author.Tests.{eqb-true, eqb-false}
 use Rattle.laws.specs.Choice.{if_then_else_, _=?_}
 use Rattle.laws.proofs.Cases.{if-true, if-false, if-eq, if-ne, if-ind}
-use Rattle.walk.specs.Check.{refusalOf}
+use Rattle.acceptance.specs.Check.{refusalOf}
 use Rattle.session.specs.Fits.{sessionFits}
 use Rattle.session.specs.declared.session.Session.{Session}
 use Rattle.handset.specs.Refusals.{_before_, _unless_, sessionRefusal}

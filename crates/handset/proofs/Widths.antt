@@ -4,10 +4,10 @@ use Prim.Native.Nat.{ℕ}
 use mathlib.Core.Path.{_≡_}
 use mathlib.Core.List.{List}
 use Rattle.cmf.specs.Grammar.{Every}
-use Rattle.walk.specs.Check.{refusalOf}
-use Rattle.walk.proofs.Acceptance.{accepted-exactly-when-well-formed}
-use Rattle.walk.proofs.Fields.{every-table}
-use Rattle.picture.proofs.Widths.{Wide, component-wide}
+use Rattle.acceptance.specs.Check.{refusalOf}
+use Rattle.acceptance.proofs.Acceptance.{accepted-exactly-when-well-formed}
+use Rattle.acceptance.proofs.Fields.{every-table}
+use Rattle.texts.proofs.Widths.{Wide, component-wide}
 
 pub fields-wide : (im : List ℕ) (sheet : ℕ) (e : refusalOf im sheet ≡ 0)
     → Every (Wide im) (accepted-exactly-when-well-formed im sheet .0 e .fields)

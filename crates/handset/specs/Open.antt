@@ -5,8 +5,8 @@ use lib.ListN.{length}
 use Rattle.laws.specs.Choice.{if_then_else_, _=?_}
 use Rattle.field.specs.Sheet.{defaultWritten}
 use Rattle.cmf.specs.Readers.{componentAt}
-use Rattle.walk.specs.Check.{checked, refusalOf}
-use Rattle.walk.specs.declared.index.Entry.{Entry}
+use Rattle.acceptance.specs.Check.{checked, refusalOf}
+use Rattle.acceptance.specs.declared.index.Entry.{Entry}
 use Rattle.session.specs.Session.{opened, closed}
 use Rattle.session.specs.Fits.{shapeFits}
 use Rattle.handset.specs.Refusals.{_before_, _unless_}

@@ -10,8 +10,8 @@ use Rattle.laws.specs.Parts.{partAt}
 use Rattle.field.specs.declared.kind.Kind.{Kind}
 use Rattle.field.specs.declared.kind.Kind.the-variants.{Integer, Counter, Time, Date, Switch, Option, Trigger}
 use Rattle.cmf.specs.Readers.{textBytes, itemPlace, componentAt}
-use Rattle.walk.specs.Check.{checked, refusalOf}
-use Rattle.walk.specs.declared.index.Entry.{Entry}
+use Rattle.acceptance.specs.Check.{checked, refusalOf}
+use Rattle.acceptance.specs.declared.index.Entry.{Entry}
 use Rattle.handset.specs.Refusals.{_before_, _unless_}
 
 -- a field was reached at a place

@@ -3,7 +3,7 @@ use Prim.Native.Nat.{ℕ}
 use mathlib.Core.Bool.{Bool}
 use mathlib.Core.List.{List}
 use Rattle.laws.specs.Choice.{if_then_else_, _=?_}
-use Rattle.walk.specs.Check.{refusalOf}
+use Rattle.acceptance.specs.Check.{refusalOf}
 use Rattle.session.specs.Fits.{sessionFits}
 use Rattle.session.specs.declared.session.Session.{Session}
 

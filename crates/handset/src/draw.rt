@@ -11,8 +11,8 @@ use crate::refusal::session_refusal;
 use picture::cursor::EditCursor;
 use picture::cursor::edit_cursor;
 use picture::picture::put_picture;
+use quick::accept::refusal_of;
 use session::session::Session;
-use walk::accept::refusal_of;
 
 // The refusal number, 0 for none, and the edit cursor: nowhere where it is refused.
 pub struct Drawn {

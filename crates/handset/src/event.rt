@@ -7,10 +7,10 @@ ghost use Rattle.handset.specs.Refusals.{_before_, _unless_};
 ghost use Rattle.handset.specs.Event.{eventStep, eventTold, eventSheet};
 use crate::refusal::NO_EVENT;
 use crate::refusal::session_refusal;
+use quick::accept::refusal_of;
 use session::session::Session;
 use session::step::Answer;
 use session::step::Stepped;
-use walk::accept::refusal_of;
 
 // The refusal number, 0 for none, where that of image, sheet and session is known.
 pub fn event_refusal(refusal: u8, event: u8) -> u8

@@ -5,9 +5,9 @@ ghost use Rattle.session.specs.Session.{closed};
 ghost use Rattle.handset.specs.Open.{openAnswer, openSheet};
 use crate::fill::write_defaults;
 use crate::refusal::NO_SHAPE;
+use quick::accept::refusal_of;
 use session::fits::shape_fits;
 use session::session::Session;
-use walk::accept::refusal_of;
 
 // The refusal number, 0 for none, and the session: closed where it is refused.
 pub struct Opened {

@@ -1,15 +1,15 @@
 // The call Option text: an item's own bytes, shown as that part of the lent image.
 ghost use mathlib.Core.Path.{_≡_};
 ghost use lib.ListN.{length};
-ghost use Rattle.walk.specs.Index.{listed};
+ghost use Rattle.acceptance.specs.Index.{listed};
 ghost use Rattle.handset.specs.OptionText.{reached, itemsIn, textRefusal, optionText};
 use crate::refusal::NO_ITEM;
+use acceptance::index::entry_at;
 use cmf::component::read_component;
 use cmf::text::item_bytes;
 use field::kind::ImagePlace;
 use field::kind::Kind;
 use walk::check::check;
-use walk::index::entry_at;
 
 // Whether one of the first k entries of an index stands at a place.
 fn is_reached(index: &[usize], k: usize, place: usize) -> bool

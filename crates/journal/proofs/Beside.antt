@@ -14,8 +14,8 @@ use Rattle.field.specs.Cells.{finished}
 use Rattle.field.specs.Sheet.{sizeOf, finishedIn}
 use Rattle.field.specs.declared.record.Field.{Field}
 use Rattle.field.specs.declared.work.Work.{Work}
-use Rattle.field.specs.declared.keys.Outcome.{Outcome}
-use Rattle.field.specs.declared.keys.Outcome.the-variants as outcome
+use Rattle.keys.specs.declared.press.Outcome.{Outcome}
+use Rattle.keys.specs.declared.press.Outcome.the-variants as outcome
 use Rattle.field.proofs.Trip.{finished-length}
 use Rattle.session.specs.Events.{second}
 use Rattle.session.specs.Visits.{followedSheet, visitSheet}

@@ -16,8 +16,8 @@ use Rattle.cmf.specs.Places.{componentsFrom}
 use Rattle.cmf.specs.declared.component.Component.{Component}
 use Rattle.cmf.specs.declared.text.Run.{Run}
 use Rattle.cmf.proofs.Onward.{component-onward}
-use Rattle.walk.proofs.Parts.{places-last, places-more}
-use Rattle.walk.proofs.Turns.{turns-more}
+use Rattle.acceptance.proofs.Parts.{places-last, places-more}
+use Rattle.acceptance.proofs.Turns.{turns-more}
 use Rattle.session.specs.Fits.{among}
 use Rattle.session.specs.Browsing.{firstEditable, lineFromHere}
 use Rattle.session.specs.Visits.{nextEditable}

@@ -19,19 +19,19 @@ use Rattle.field.specs.declared.kind.Kind.the-variants.{Integer, Counter, Time,
 use Rattle.field.specs.declared.kind.ImagePlace.{ImagePlace}
 use Rattle.field.specs.declared.record.Field.{Field}
 use Rattle.field.specs.declared.work.Work.{Work}
-use Rattle.field.specs.declared.keys.Pressed.{Pressed}
-use Rattle.field.specs.declared.keys.Outcome.{Outcome}
-use Rattle.field.specs.declared.keys.Outcome.the-variants as outcome
-use Rattle.field.proofs.Kept.{Legal, legal-true}
-use Rattle.field.proofs.Outcomes.{passedIn, partsIn, Facts, Says, up-says, down-says, left-says, right-says, digit-says, enter-says, passed-start, passed-below}
+use Rattle.keys.specs.declared.press.Pressed.{Pressed}
+use Rattle.keys.specs.declared.press.Outcome.{Outcome}
+use Rattle.keys.specs.declared.press.Outcome.the-variants as outcome
+use Rattle.field.proofs.Legal.{Legal, legal-true}
+use Rattle.keys.proofs.Outcomes.{passedIn, partsIn, Facts, Says, up-says, down-says, left-says, right-says, digit-says, enter-says, passed-start, passed-below}
 use Rattle.field.proofs.Apart.{LieApart, finished-beside, finished-read}
 use Rattle.cmf.specs.Grammar.{WellFormed}
 use Rattle.cmf.specs.Readers.{componentAt}
 use Rattle.cmf.specs.Places.{componentsOf}
 use Rattle.cmf.specs.declared.head.Head.{Head}
-use Rattle.walk.proofs.Acceptance.{accepted-exactly-when-well-formed, same-fields}
-use Rattle.walk.proofs.Fields.{others-apart, field-inside}
-use Rattle.walk.proofs.Reach.{part-of}
+use Rattle.acceptance.proofs.Acceptance.{accepted-exactly-when-well-formed, same-fields}
+use Rattle.acceptance.proofs.Fields.{others-apart, field-inside}
+use Rattle.acceptance.proofs.Reach.{part-of}
 use Rattle.session.specs.Events.{up, down, left, right, enter, second, lastDigitKey}
 use Rattle.session.specs.Fits.{cursorLine, cursorHead, workFits, visitFits, modeFits, sessionFits}
 use Rattle.session.specs.Steps.{taken, flash, withIdle, browsing, isFlash, isRefused}

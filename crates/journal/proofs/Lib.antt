@@ -6,15 +6,3 @@ pub mod Executor
 pub mod Sittings
 pub mod Beside
 pub mod Playing
-pub mod Passwords
-pub mod Moves
-pub mod Protected
-pub mod EntryCases
-pub mod Fitting
-pub mod FittingEntries
-pub mod WorkingCopies
-pub mod FittingVisits
-pub mod Unrefused
-pub mod Examples
-pub mod Starred
-pub mod Promises

@@ -13,7 +13,7 @@ use Rattle.cmf.specs.Limits.{prologBytes, deepestTable}
 use Rattle.cmf.specs.Grammar.{WellFormed}
 use Rattle.cmf.specs.Places.{lineCount}
 use Rattle.cmf.proofs.Agreeing.{agree}
-use Rattle.walk.proofs.Reach.{Reached, LineIn, line-reached, no-levels, top-reached}
+use Rattle.acceptance.proofs.Reach.{Reached, LineIn, line-reached, no-levels, top-reached}
 use Rattle.session.specs.Fits.{cursorLine, cursorHead, levelFits, levelsFit, tablesFit, sessionFits}
 use Rattle.session.specs.declared.session.Level.{Level}
 use Rattle.session.specs.declared.session.Session.{Session}

@@ -1,7 +1,7 @@
 -- Demand 3, over the definitions that the public contracts cite: after a successful Open and any list of events the sheet is the journal's (A),
--- each field's bytes are its default changed by its own finished visits (B), and two candidates with the same visits have the same bytes (C).
+-- and each field's bytes are its default changed by its own finished visits (B).
 use Prim.Native.Nat.{ℕ}
-use mathlib.Core.Path.{_≡_, refl, sym, ap, _∙_, subst}
+use mathlib.Core.Path.{_≡_, refl, ap, _∙_, subst}
 use mathlib.Core.List.{List, [], _∷_}
 use lib.ListN.{length}
 use Rattle.laws.specs.Choice.{_=?_}
@@ -9,7 +9,7 @@ use Rattle.laws.proofs.Cases.{if-ind, if-eq}
 use Rattle.field.specs.Values.{bytesOf}
 use Rattle.field.specs.Sheet.{ownBytes}
 use Rattle.cmf.specs.Grammar.{WellFormed}
-use Rattle.walk.proofs.Acceptance.{accepted-exactly-when-well-formed, same-fields}
+use Rattle.acceptance.proofs.Acceptance.{accepted-exactly-when-well-formed, same-fields}
 use Rattle.session.specs.Session.{opened, closed}
 use Rattle.session.specs.declared.session.Session.{Session}
 use Rattle.handset.specs.Open.{openRefusal, openAnswer, openSheet}
@@ -18,7 +18,6 @@ use Rattle.handset.proofs.Defaults.{defaults-there}
 use Rattle.journal.specs.Journal.{Answered, answered, allVisited, AllFinish, journalOf}
 use Rattle.journal.specs.Rules.{fieldAt, rulesOf, IsField, HoldsJournal}
 use Rattle.journal.specs.Sitting.{Sitting, begunWith, next, answerTo, played, answeredIn, visitsIn}
-use Rattle.journal.specs.Promises.{Candidate, visitsAt, bytesAt}
 use Rattle.journal.proofs.Steps.{away, final, log, Opened}
 use Rattle.journal.proofs.Whole.{bytes-are-journal, journal-is-visits, visits-finish}
 use Rattle.journal.proofs.Executor.{viewOf, executor, executor-lawful}
@@ -56,7 +55,7 @@ unfolding answeredIn
 log-is im t [] = refl
 log-is im t (e ∷ es) = ap (λ (xs : List Answered). answered e (answerTo im t e) ∷ xs) (log-is im (next im t e) es)
 
--- ---- the three claims
+-- ---- the claims
 
 module _ (im sheet : List ℕ) (columns lines : ℕ) (accepted : openRefusal im (length sheet) columns lines ≡ 0) (es : List ℕ) where
   -- A
@@ -82,10 +81,3 @@ module _ (im sheet : List ℕ) (columns lines : ℕ) (accepted : openRefusal im 
   own-visits-finish q =
       subst (λ (xs : List Answered). AllFinish (rulesOf im) q (bytesOf (fieldAt im q .default)) (journalOf (rulesOf im) xs .visits q)) (log-is im (begunWith im sheet columns lines) es)
       (visits-finish (rulesOf im) (executor im) (executor-lawful im) (begunWith im sheet columns lines) (opened-well im sheet columns lines accepted) es q)
-
--- C: two candidates with the same finished visits at a field, in whatever order they went from field to field
-pub two-candidates : (im : List ℕ) (a b : Candidate im) (q : ℕ) → IsField im q → visitsAt a q ≡ visitsAt b q → bytesAt a q ≡ bytesAt b q
-two-candidates im a b q f h =
-    default-changed-by-own-visits im (a .sheet) (a .columns) (a .lines) (a .accepted) (a .events) q f
-    ∙ ap (allVisited (rulesOf im) q (bytesOf (fieldAt im q .default))) h
-    ∙ sym (default-changed-by-own-visits im (b .sheet) (b .columns) (b .lines) (b .accepted) (b .events) q f)

@@ -11,8 +11,8 @@ use Rattle.field.specs.declared.kind.Kind.{Kind}
 use Rattle.field.specs.declared.kind.Kind.the-variants.{Integer, Counter, Time, Date, Switch, Option, Trigger}
 use Rattle.field.specs.declared.record.Field.{Field}
 use Rattle.field.specs.declared.work.Work.{Work}
-use Rattle.field.specs.declared.keys.Outcome.{Outcome}
-use Rattle.field.specs.declared.keys.Outcome.the-variants as outcome
+use Rattle.keys.specs.declared.press.Outcome.{Outcome}
+use Rattle.keys.specs.declared.press.Outcome.the-variants as outcome
 use Rattle.cmf.specs.Grammar.{WellFormed}
 use Rattle.cmf.specs.Readers.{componentAt}
 use Rattle.session.specs.Visits.{pressed}

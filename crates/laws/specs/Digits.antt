@@ -18,3 +18,7 @@ lowFirst n x = reverse (digitsOf 256 n x)
 
 unfoldable pub fromLow : List ℕ → ℕ
 fromLow bs = numberFrom 256 0 (reverse bs)
+
+-- the character of the digit 0, in ASCII
+abbrev pub digit0 : ℕ
+digit0 = 0x30

@@ -11,7 +11,7 @@ use Rattle.cmf.specs.Places.{componentsFrom, componentsOf}
 use Rattle.cmf.specs.declared.component.Component.{Component}
 use Rattle.session.specs.Fits.{cursorLine}
 use Rattle.session.specs.declared.session.Session.{Session}
-use Rattle.picture.specs.Texts.{yearCells}
+use Rattle.texts.specs.Texts.{yearCells}
 use Rattle.picture.specs.Cursor.{datePart, cellWithin, widthAt, cellsBefore, dataCell}
 
 module _ (im : List ℕ) (place : ℕ) where

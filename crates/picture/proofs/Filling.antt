@@ -18,7 +18,7 @@ use Rattle.session.specs.Fits.{leastColumns, leastRows, shapeFits}
 use Rattle.session.specs.declared.session.Session.{Session}
 use Rattle.session.specs.declared.session.Mode.{Mode}
 use Rattle.session.specs.declared.session.Mode.the-variants as mode
-use Rattle.picture.specs.Texts.{blank}
+use Rattle.texts.specs.Texts.{blank}
 use Rattle.picture.specs.Rows.{lineNumber, titleRow, passwordRow, topRowIn, topRow, dataText, submenuMark, lineRow, rowAt, rowsFrom, rowsBelow, pictureOf, filled}
 
 -- what a legal shape says

@@ -1,9 +1,6 @@
 pub mod Sized
-pub mod Writing
-pub mod Texting
 pub mod Lines
 pub mod Counting
 pub mod Filling
 pub mod Knowing
 pub mod Printed
-pub mod Widths

@@ -1,7 +1,7 @@
 -- Rows put together from their parts, and one turn of each loop over a line's components.
 use Prim.Native.Nat.{ℕ, zero, suc, _+_, _-_, _≤_, _<_}
 use mathlib.Core.Path.{_≡_, refl, sym, ap, _∙_}
-use mathlib.Core.Bool.{true, false}
+use mathlib.Core.Bool.{Bool, true, false}
 use mathlib.Core.List.{List, [], _∷_, _++_}
 use native.Mathlib.Omega.{arith}
 use lib.ListN.{length, take, drop, set, replicate, length-take, length-drop}
@@ -21,10 +21,27 @@ use Rattle.session.proofs.Moving.{editable-here, editable-last, editable-next}
 use Rattle.session.specs.declared.browse.Found.{Found}
 use Rattle.session.specs.declared.session.Level.{Level}
 use Rattle.session.specs.declared.session.Session.{Session}
-use Rattle.picture.specs.Row.{Put}
-use Rattle.picture.specs.Texts.{blank, star, colon, componentText}
-use Rattle.picture.specs.Rows.{greater, editMark, lineNumber, moreMark, titleRow, dot, prompt, passwordRow, dataText, submenuMark, lineRow}
-use Rattle.picture.proofs.Writing.{Rest, behind, rest-step, rest-end, padded, over-tail}
+use Rattle.texts.specs.Row.{Put}
+use Rattle.texts.specs.Texts.{blank, star, colon, cellsText, fieldText}
+use Rattle.picture.specs.Rows.{greater, editMark, lineNumber, moreMark, titleRow, dot, prompt, passwordRow, visiting, componentText, dataText, submenuMark, lineRow}
+use Rattle.texts.proofs.Writing.{Rest, behind, same, rest-step, rest-end, padded, over-tail}
+
+-- ---- what one component shows
+
+module _ {x z : List ℕ} {at r : ℕ} (im sheet : List ℕ) (s : Session) (p : ℕ) (c : Component) where
+  pub shown-visit : (t : Bool) → c .holds ≡ true → t ≡ visiting (s .mode) p → t ≡ true
+      → Put x at (cellsText im p (c .field .kind) (s .work .cells)) z r → Put x at (componentText im sheet s p c) z r
+  unfolding componentText
+  shown-visit t h e b k = same (sym (if-true _ _ h ∙ if-true _ _ (sym e ∙ b))) k
+
+  pub shown-field : (t : Bool) → c .holds ≡ true → t ≡ visiting (s .mode) p → t ≡ false
+      → Put x at (fieldText im sheet p (c .field)) z r → Put x at (componentText im sheet s p c) z r
+  unfolding componentText
+  shown-field t h e b k = same (sym (if-true _ _ h ∙ if-false _ _ (sym e ∙ b))) k
+
+  pub shown-string : (t : List ℕ) → c .holds ≡ false → t ≡ textBytes im (p + 1) → Put x at t z r → Put x at (componentText im sheet s p c) z r
+  unfolding componentText
+  shown-string t h e k = same (e ∙ sym (if-false _ _ h)) k
 
 -- ---- the components of a line
 

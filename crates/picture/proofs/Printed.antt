@@ -16,8 +16,8 @@ use Rattle.cmf.proofs.Example.{image}
 use Rattle.session.specs.Session.{opened}
 use Rattle.session.specs.Fits.{cursorHead}
 use Rattle.session.specs.Browsing.{firstEditable}
-use Rattle.picture.specs.Texts.{cellsText, fieldText, visiting, componentText}
-use Rattle.picture.specs.Rows.{editMark, lineNumber, moreMark, titleRow, topRowIn, dataText, submenuMark, lineRow, rowAt, rowsFrom, rowsBelow, pictureOf}
+use Rattle.texts.specs.Texts.{cellsText, fieldText}
+use Rattle.picture.specs.Rows.{visiting, componentText, editMark, lineNumber, moreMark, titleRow, topRowIn, dataText, submenuMark, lineRow, rowAt, rowsFrom, rowsBelow, pictureOf}
 
 -- a row of sixteen cells
 abbrev pub printed : List ℕ

@@ -12,7 +12,7 @@ use Rattle.session.specs.Fits.{cursorLine}
 use Rattle.session.specs.declared.session.Mode.{Mode}
 use Rattle.session.specs.declared.session.Mode.the-variants as mode
 use Rattle.session.specs.declared.session.Session.{Session}
-use Rattle.picture.specs.Texts.{yearCells, widthOf}
+use Rattle.texts.specs.Texts.{yearCells, widthOf}
 use Rattle.picture.specs.declared.cursor.EditCursor.{EditCursor}
 use Rattle.picture.specs.declared.cursor.EditCursor.the-variants.{Nowhere, At}
 

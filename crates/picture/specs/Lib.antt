@@ -1,4 +1,2 @@
-pub mod Texts
 pub mod Rows
 pub mod Cursor
-pub mod Row

@@ -1,5 +1,6 @@
 -- The picture (01, Picture), row by row.
 use Prim.Native.Nat.{ℕ, zero, suc, _+_, _-_, _*_, _/_, _%_}
+use mathlib.Core.Bool.{Bool, false}
 use mathlib.Core.List.{List, [], _∷_, _++_}
 use lib.ListN.{length, replicate}
 use Rattle.laws.specs.Choice.{if_then_else_, _=?_, _<?_, _≤?_}
@@ -8,14 +9,15 @@ use Rattle.laws.specs.Overwrite.{fit}
 use Rattle.cmf.specs.Readers.{textBytes, headAt, componentAt}
 use Rattle.cmf.specs.Places.{componentsOf, lineAt, lineCount}
 use Rattle.cmf.specs.declared.head.Head.{Head}
+use Rattle.cmf.specs.declared.component.Component.{Component}
 use Rattle.session.specs.Fits.{shapeFits, cursorLine, cursorHead}
 use Rattle.session.specs.Browsing.{firstEditable}
-use Rattle.session.specs.Passwords.{digit0}
+use Rattle.laws.specs.Digits.{digit0}
 use Rattle.session.specs.declared.session.Level.{Level}
 use Rattle.session.specs.declared.session.Mode.{Mode}
 use Rattle.session.specs.declared.session.Mode.the-variants as mode
 use Rattle.session.specs.declared.session.Session.{Session}
-use Rattle.picture.specs.Texts.{blank, star, plus, colon, componentText}
+use Rattle.texts.specs.Texts.{blank, star, plus, colon, cellsText, fieldText}
 
 abbrev pub greater : ℕ
 greater = 0x3e
@@ -72,6 +74,19 @@ abbrev pub topRow : List ℕ → Session → List ℕ
 topRow im s = topRowIn im s (s .mode)
 
 -- ---- the other rows
+
+-- a visit of the component at a place is open
+unfoldable pub visiting : Mode → ℕ → Bool
+visiting mode.Browsing p = false
+visiting (mode.Visit q) p = q .0 =? p
+visiting (mode.Password n) p = false
+
+-- 01, Picture: the component of an open visit shows the working copy, any other field the sheet; R33: a string shows its bytes as they are
+unfoldable pub componentText : List ℕ → List ℕ → Session → ℕ → Component → List ℕ
+componentText im sheet s p c =
+    if c .holds then
+    (if visiting (s .mode) p then cellsText im p (c .field .kind) (s .work .cells) else fieldText im sheet p (c .field))
+    else textBytes im (p + 1)
 
 -- what the components show, one behind the other
 unfoldable pub dataText : List ℕ → List ℕ → Session → List ℕ → List ℕ

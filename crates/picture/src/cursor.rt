@@ -3,9 +3,6 @@ ghost use mathlib.Core.Path.{_≡_};
 ghost use Prim.Native.Nat.{_+_, _≤_, _<_, min};
 ghost use Rattle.cmf.specs.Places.{componentsOf};
 ghost use Rattle.picture.specs.Cursor.{told, datePart, cellWithin, widthAt, cellsBefore, dataCell, editCursor};
-use crate::text::less;
-use crate::text::width_of;
-use crate::text::year_cells;
 use cmf::component::Component;
 use cmf::component::read_component;
 use cmf::head::read_head;
@@ -13,6 +10,9 @@ use cmf::text::string_bytes;
 use field::kind::Kind;
 use session::session::Mode;
 use session::session::Session;
+use texts::text::less;
+use texts::text::width_of;
+use texts::text::year_cells;
 
 // None, or its row and column, both from 0.
 pub enum EditCursor {

@@ -8,16 +8,16 @@ ghost use Rattle.laws.specs.Overwrite.{fit};
 ghost use Rattle.cmf.specs.Readers.{headAt};
 ghost use Rattle.cmf.specs.Places.{componentsFrom, componentsOf};
 ghost use Rattle.session.specs.Browsing.{firstEditable};
-ghost use Rattle.picture.specs.Row.{Put};
-ghost use Rattle.picture.specs.Texts.{blank, star, colon};
+ghost use Rattle.texts.specs.Row.{Put};
+ghost use Rattle.texts.specs.Texts.{blank, star, colon};
 ghost use Rattle.picture.specs.Rows.{greater, dataText, submenuMark, lineRow};
-use crate::row::pad;
-use crate::row::put;
-use crate::row::smaller;
-use crate::text::put_component;
+use crate::component::put_component;
 use cmf::component::read_component;
 use cmf::head::Head;
 use session::session::Session;
+use texts::row::pad;
+use texts::row::put;
+use texts::row::smaller;
 
 // Where a line's data end, and its mark in row 0: whether a component is editable, or 0 where the row does not tell.
 struct Marked {

@@ -9,11 +9,10 @@ ghost use Rattle.cmf.specs.Limits.{mostLinesOfTable};
 ghost use Rattle.cmf.specs.Readers.{headAt};
 ghost use Rattle.cmf.specs.Places.{componentsOf, lineAt, lineCount};
 ghost use Rattle.session.specs.Browsing.{firstEditable};
-ghost use Rattle.picture.specs.Texts.{star, colon};
+ghost use Rattle.texts.specs.Texts.{star, colon};
 ghost use Rattle.session.specs.Fits.{shapeFits, cursorLine};
 ghost use Rattle.picture.specs.Rows.{editMark, moreMark, rowAt, rowsBelow, pictureOf, filled};
 use crate::line::put_line;
-use crate::row::pad;
 use crate::title::put_top;
 use cmf::head::Head;
 use cmf::head::read_head;
@@ -24,6 +23,7 @@ use session::fits::reach;
 use session::fits::shape_fits;
 use session::session::Level;
 use session::session::Session;
+use texts::row::pad;
 
 // What is known of the shown table: how many lines it has, as far as they are looked at, where one of them stands, and its mark in row 0, or 0.
 struct Known {

@@ -7,14 +7,9 @@ ghost use Rattle.session.specs.Fits.{cursorLine};
 ghost use Rattle.cmf.specs.Places.{lineCount};
 ghost use Rattle.laws.specs.Choice.{if_then_else_, _<?_};
 ghost use Rattle.laws.specs.Overwrite.{over};
-ghost use Rattle.session.specs.Passwords.{digit0};
-ghost use Rattle.picture.specs.Texts.{blank};
+ghost use Rattle.laws.specs.Digits.{digit0};
+ghost use Rattle.texts.specs.Texts.{blank};
 ghost use Rattle.picture.specs.Rows.{editMark, lineNumber, moreMark, titleRow, passwordRow, topRow};
-use crate::row::pad;
-use crate::row::put;
-use crate::row::put_all;
-use crate::row::repeat;
-use crate::text::less;
 use cmf::head::read_head;
 use cmf::text::text_bytes;
 use laws::byte_at;
@@ -22,6 +17,11 @@ use session::browse::first_editable;
 use session::session::Level;
 use session::session::Mode;
 use session::session::Session;
+use texts::row::pad;
+use texts::row::put;
+use texts::row::put_all;
+use texts::row::repeat;
+use texts::text::less;
 
 // The cursor line of a level stands at a place; its mark is given, or 0.
 fn edit_mark(image: &[u8], level: Level, line: usize, mark: u8) -> u8

@@ -5,11 +5,11 @@ use mathlib.Core.Bool.{true, false}
 use mathlib.Core.List.{List}
 use Rattle.laws.proofs.Cases.{if-true, if-false, if-eq, if-ne, if-le, if-gt}
 use Rattle.field.specs.Table.{profileOf, cellOf}
-use Rattle.field.specs.Keys.{digitKey, flash}
+use Rattle.keys.specs.Keys.{digitKey, flash}
 use Rattle.field.specs.declared.kind.Kind.{Kind}
 use Rattle.field.specs.declared.kind.ImagePlace.{ImagePlace}
 use Rattle.field.specs.declared.work.Work.{Work}
-use Rattle.field.specs.declared.keys.Pressed.{Pressed}
+use Rattle.keys.specs.declared.press.Pressed.{Pressed}
 use Rattle.cmf.specs.Readers.{componentAt}
 use Rattle.cmf.specs.declared.component.Component.{Component}
 use Rattle.session.specs.Steps.{taken, withIdle, browsing}

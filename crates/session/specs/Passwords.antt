@@ -5,6 +5,7 @@ use mathlib.Core.List.{List}
 use lib.ListN.{getD, set}
 use Rattle.laws.specs.Choice.{if_then_else_, _and_, _=?_, _<?_, _≤?_}
 use Rattle.laws.specs.Bytes.{byteAt}
+use Rattle.laws.specs.Digits.{digit0}
 use Rattle.cmf.specs.declared.head.Head.{Head}
 use Rattle.session.specs.Fits.{cursorHead}
 use Rattle.session.specs.Steps.{taken, flash, withIdle, doing, browsing, entering}
@@ -14,10 +15,6 @@ use Rattle.session.specs.Events.{lastDigitKey, left, second}
 use Rattle.session.specs.declared.session.Mode.the-variants as mode
 use Rattle.session.specs.declared.session.Session.{Session}
 use Rattle.session.specs.declared.step.Stepped.{Stepped}
-
--- a password's digits are characters
-abbrev pub digit0 : ℕ
-digit0 = 0x30
 
 -- the first n digits typed are those of the password whose digits stand from a place on
 unfoldable pub rightTo : List ℕ → ℕ → List ℕ → ℕ → Bool

@@ -3,15 +3,15 @@ use Prim.Native.Nat.{ℕ}
 use mathlib.Core.List.{List}
 use Rattle.laws.specs.Choice.{if_then_else_, _=?_, _≤?_}
 use Rattle.field.specs.Table.{profileOf, cellOf}
-use Rattle.field.specs.Keys as key
+use Rattle.keys.specs.Keys as key
 use Rattle.field.specs.Sheet.{finishedIn}
 use Rattle.field.specs.declared.kind.Kind.{Kind}
 use Rattle.field.specs.declared.kind.ImagePlace.{ImagePlace}
 use Rattle.field.specs.declared.record.Field.{Field}
 use Rattle.field.specs.declared.work.Work.{Work}
-use Rattle.field.specs.declared.keys.Pressed.{Pressed}
-use Rattle.field.specs.declared.keys.Outcome.{Outcome}
-use Rattle.field.specs.declared.keys.Outcome.the-variants as outcome
+use Rattle.keys.specs.declared.press.Pressed.{Pressed}
+use Rattle.keys.specs.declared.press.Outcome.{Outcome}
+use Rattle.keys.specs.declared.press.Outcome.the-variants as outcome
 use Rattle.cmf.specs.Readers.{componentAt}
 use Rattle.session.specs.Steps.{taken, flash, withIdle, browsing, visiting}
 use Rattle.session.specs.Browsing.{foundNone, firstEditable, lineFromHere, visitAt}

@@ -3,7 +3,7 @@ ghost use mathlib.Core.Path.{_≡_};
 ghost use Rattle.field.specs.Sheet.{finishedIn};
 ghost use Rattle.session.specs.Steps.{visiting};
 ghost use Rattle.session.specs.Visits.{pressed, nextEditable, movedOn, followed, followedSheet, visitStep, visitSheet};
-ghost use Rattle.field.specs.declared.keys.Outcome.the-variants as outcome;
+ghost use Rattle.keys.specs.declared.press.Outcome.the-variants as outcome;
 use crate::browse::Found;
 use crate::browse::first_editable;
 use crate::session::Mode;
@@ -11,14 +11,20 @@ use crate::session::Session;
 use crate::step::Answer;
 use crate::step::Stepped;
 use cmf::component::read_component;
-use field::keys::Outcome;
-use field::keys::Pressed;
 use field::kind::ImagePlace;
 use field::kind::Kind;
 use field::record::Field;
 use field::table::cell_of;
 use field::table::profile_of;
 use field::work::Work;
+use keys::press::Outcome;
+use keys::press::Pressed;
+use keys::press::digit;
+use keys::press::down;
+use keys::press::enter;
+use keys::press::left;
+use keys::press::right;
+use keys::press::up;
 
 // What a key makes of a working copy.
 fn press(kind: Kind, work: Work, event: u8) -> Pressed
@@ -27,12 +33,12 @@ fn press(kind: Kind, work: Work, event: u8) -> Pressed
     let p = profile_of(kind);
     let c = cell_of(kind, work.at as usize);
     match event {
-        Session::UP => work.up(p, c),
-        Session::DOWN => work.down(p, c),
-        Session::LEFT => work.left(p, c),
-        Session::RIGHT => work.right(p, c),
-        Session::ENTER => work.enter(kind),
-        0..=Session::LAST_DIGIT => work.digit(p, c, event),
+        Session::UP => up(work, p, c),
+        Session::DOWN => down(work, p, c),
+        Session::LEFT => left(work, p, c),
+        Session::RIGHT => right(work, p, c),
+        Session::ENTER => enter(work, kind),
+        0..=Session::LAST_DIGIT => digit(work, p, c, event),
         _ => Pressed {
             work,
             outcome: Outcome::Flash,

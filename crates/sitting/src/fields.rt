@@ -2,12 +2,12 @@
 use crate::words::say;
 use crate::words::say_number;
 use crate::words::say_plain;
+use acceptance::index::Entry;
+use acceptance::index::entry_at;
 use handset::option::option_text;
 use laws::byte_at;
 use libc::STDOUT_FILENO;
 use walk::check::check;
-use walk::index::Entry;
-use walk::index::entry_at;
 
 // The first refusal that comes from the walk and not from the prolog.
 const WALK: u8 = 6;

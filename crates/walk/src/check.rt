@@ -5,12 +5,12 @@ ghost use Rattle.laws.specs.Choice.{_and_, _=?_};
 ghost use Rattle.laws.specs.Bytes.{byteAt};
 ghost use lib.ListN.{length};
 ghost use Rattle.cmf.specs.Places.{componentsFrom};
-ghost use Rattle.walk.specs.Check.{padded, takeTitle, agrees, linePlaced, countLine, takeLine, takeField, takeComponent, onComponents, onLine, onTable, prologCode, checked};
-ghost use Rattle.walk.specs.Index.{capacity, seen};
-use crate::index::Entry;
-use crate::index::apart_from;
-use crate::index::set_entry;
-use crate::state::Walk;
+ghost use Rattle.acceptance.specs.Check.{padded, takeTitle, agrees, linePlaced, countLine, takeLine, takeField, takeComponent, onComponents, onLine, onTable, prologCode, checked};
+ghost use Rattle.acceptance.specs.Index.{capacity, seen};
+use acceptance::index::Entry;
+use acceptance::index::apart_from;
+use acceptance::index::set_entry;
+use acceptance::state::Walk;
 use cmf::component::Component;
 use cmf::component::read_component;
 use cmf::head::Head;
@@ -30,7 +30,7 @@ pub struct Checked {
 }
 
 // Whether what stands at a place follows what ended before it at once, or behind one zero byte.
-pub(crate) fn is_padded(image: &[u8], at: usize, place: usize) -> bool
+pub fn is_padded(image: &[u8], at: usize, place: usize) -> bool
     ensures { λ r. ⌜ r ≡ padded (now (image .entry)) at place ⌝ }
 {
     if at == place {
@@ -260,7 +260,7 @@ fn check_table(
 }
 
 // The prolog's refusal: 2 to 5, 0 for none.
-pub(crate) fn prolog_code(image: &[u8]) -> u8
+pub fn prolog_code(image: &[u8]) -> u8
     ensures { λ r. ⌜ r ≡ prologCode (now (image .entry)) ⌝ }
 {
     if image.len() < Image::PROLOG {

@@ -4,7 +4,7 @@ use Prim.Native.Nat.{_-_, _≤_}
 use mathlib.Core.Path.{_≡_, refl, sym}
 use mathlib.Core.Bool.{false}
 use Rattle.handset.specs.OptionText.{reached}
-use Rattle.walk.specs.Index.{listed}
+use Rattle.acceptance.specs.Index.{listed}
 use Rattle.handset.proofs.Finding.{found, still-none}
 use borrow.Author.Needs.{needs}
 use Rattle.handset.proofs.option.is_reached.Statement.{statement}

@@ -6,7 +6,7 @@ use Rattle.laws.proofs.Overwriting.{length-over}
 use Rattle.cmf.specs.Places.{componentsFrom}
 use Rattle.session.specs.Browsing.{firstEditable}
 use Rattle.picture.specs.Rows.{dataText}
-use Rattle.picture.proofs.Writing.{Rest, rest-start, rest-end}
+use Rattle.texts.proofs.Writing.{Rest, rest-start, rest-end}
 use Rattle.picture.proofs.Lines.{data-last, data-next, data-done, markOf, mark-told, mark-next}
 use borrow.Author.Needs.{needs}
 use Rattle.picture.proofs.line.put_data.Statement.{statement}

@@ -1,8 +1,8 @@
 -- The cursor's mark, the data, then blanks.
 use borrow.Author.Needs.{needs}
 use mathlib.Core.Path.{_∙_}
-use Rattle.picture.specs.Texts.{blank}
-use Rattle.picture.proofs.Writing.{behind, padded}
+use Rattle.texts.specs.Texts.{blank}
+use Rattle.texts.proofs.Writing.{behind, padded}
 use Rattle.picture.proofs.line.put_start.Statement.{statement}
 use Rattle.picture.proofs.line.put_start.Tie as tie
 

@@ -2,9 +2,9 @@
 use borrow.Author.Needs.{needs}
 use mathlib.Core.Path.{refl, sym, _∙_}
 use Rattle.laws.proofs.Cases.{if-lt, if-ge}
-use Rattle.picture.specs.Texts.{blank}
+use Rattle.texts.specs.Texts.{blank}
 use Rattle.picture.specs.Rows.{rowAt}
-use Rattle.picture.proofs.Writing.{all-blank}
+use Rattle.texts.proofs.Writing.{all-blank}
 use Rattle.picture.proofs.picture.put_row.Statement.{statement}
 use Rattle.picture.proofs.picture.put_row.Tie as tie
 

@@ -1,7 +1,7 @@
 -- One cell behind the other.
 use borrow.Author.Needs.{needs}
 use Rattle.picture.specs.Rows.{lineNumber}
-use Rattle.picture.proofs.Writing.{behind}
+use Rattle.texts.proofs.Writing.{behind}
 use Rattle.picture.proofs.title.put_marks.Statement.{statement}
 use Rattle.picture.proofs.title.put_marks.Tie as tie
 

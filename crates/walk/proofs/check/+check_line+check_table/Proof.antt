@@ -4,16 +4,16 @@ use Rattle.cmf.proofs.title.read_title.Reads as read-title-reads
 use Rattle.walk.proofs.check.take_line.Reads as take-line-reads
 use Rattle.walk.proofs.check.take_title.Reads as take-title-reads
 use Rattle.walk.proofs.check.check_components.Reads as check-components-reads
-use Rattle.walk.proofs.state.Walk.behind.Reads as behind-reads
-use Rattle.walk.proofs.state.Walk.refused.Reads as refused-reads
+use Rattle.acceptance.proofs.state.Walk.behind.Reads as behind-reads
+use Rattle.acceptance.proofs.state.Walk.refused.Reads as refused-reads
 use native.Mathlib.Omega.{arith}
 use Prim.Native.Nat.{ℕ, _+_, _-_, _/_, _<_}
 use mathlib.Core.Path.{_≡_, refl, sym, ap, _∙_}
 use lib.ListN.{length}
-use Rattle.walk.specs.Check.{onLines, onTable}
-use Rattle.walk.specs.Index.{capacity, seen}
+use Rattle.acceptance.specs.Check.{onLines, onTable}
+use Rattle.acceptance.specs.Index.{capacity, seen}
 use Rattle.cmf.specs.Places.{linesFrom}
-use Rattle.walk.proofs.CodeSteps.{line-stop, line-bad, line-plain, line-deep, lines-stop, lines-last, lines-next, lines-done, table-stop, table-deep, table-lines}
+use Rattle.acceptance.proofs.CodeSteps.{line-stop, line-bad, line-plain, line-deep, lines-stop, lines-last, lines-next, lines-done, table-stop, table-deep, table-lines}
 use borrow.Author.Needs.{needs}
 use Prim.Native.Nat.{ℕ, _<_}
 use borrow.Fn.Kinds.{In}

@@ -1,8 +1,8 @@
 -- Each return is the case of the definition that the tests on its path choose.
 use Rattle.laws.specs.Choice.{if_then_else_}
 use borrow.Author.Tests.{eq-eqb, ne-eqb}
-use Rattle.walk.specs.Check.{checked, walked}
-use Rattle.walk.specs.Index.{listed}
+use Rattle.acceptance.specs.Check.{checked, walked}
+use Rattle.acceptance.specs.Index.{listed}
 use borrow.Author.Needs.{needs}
 use Rattle.walk.proofs.check.check.Statement.{statement}
 use Rattle.walk.proofs.check.check.Tie as tie

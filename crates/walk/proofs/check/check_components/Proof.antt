@@ -3,10 +3,10 @@ use native.Mathlib.Omega.{arith}
 use Prim.Native.Nat.{ℕ, _+_, _/_}
 use mathlib.Core.Path.{_≡_, sym, ap, _∙_}
 use lib.ListN.{length}
-use Rattle.walk.specs.Check.{onComponents}
-use Rattle.walk.specs.Index.{capacity, seen}
+use Rattle.acceptance.specs.Check.{onComponents}
+use Rattle.acceptance.specs.Index.{capacity, seen}
 use Rattle.cmf.specs.Places.{componentsFrom}
-use Rattle.walk.proofs.CodeSteps.{components-stop, components-last, components-next, components-done}
+use Rattle.acceptance.proofs.CodeSteps.{components-stop, components-last, components-next, components-done}
 use borrow.Author.Needs.{needs}
 use Rattle.walk.proofs.check.check_components.Statement.{statement}
 use Rattle.walk.proofs.check.check_components.Tie as tie

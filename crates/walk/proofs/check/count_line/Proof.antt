@@ -1,7 +1,7 @@
 -- Each return is the case of the definition that the tests on its path choose.
 use Rattle.laws.specs.Choice.{if_then_else_}
 use borrow.Author.Tests.{le-leb, lt-leb}
-use Rattle.walk.specs.Check.{countLine}
+use Rattle.acceptance.specs.Check.{countLine}
 use borrow.Author.Needs.{needs}
 use Rattle.walk.proofs.check.count_line.Statement.{statement}
 use Rattle.walk.proofs.check.count_line.Tie as tie

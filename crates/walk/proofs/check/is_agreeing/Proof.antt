@@ -1,8 +1,8 @@
 -- Each return is the case of the definition that the tests on its path choose.
-use Rattle.walk.proofs.CodeSteps.{same-test, no-test}
+use Rattle.acceptance.proofs.CodeSteps.{same-test, no-test}
 use Rattle.laws.proofs.Cases.{choices}
 use native.Mathlib.Omega.{arith}
-use Rattle.walk.specs.Check.{agrees}
+use Rattle.acceptance.specs.Check.{agrees}
 use borrow.Author.Tests.{ne-eqb}
 use Rattle.laws.specs.Choice.{if_then_else_}
 use Rattle.walk.proofs.check.is_agreeing.Statement.{statement}

@@ -3,7 +3,7 @@ use Rattle.laws.proofs.Cases.{choices}
 use native.Mathlib.Omega.{arith}
 use Rattle.laws.specs.Choice.{if_then_else_}
 use borrow.Author.Tests.{ne-eqb}
-use Rattle.walk.specs.Check.{padded}
+use Rattle.acceptance.specs.Check.{padded}
 use borrow.Author.Needs.{needs}
 use Rattle.walk.proofs.check.is_padded.Statement.{statement}
 use Rattle.walk.proofs.check.is_padded.Tie as tie

@@ -1,7 +1,7 @@
 -- Each return is the case of the definition that the tests on its path choose.
 use Rattle.laws.specs.Choice.{_and_}
 use borrow.Author.Tests.{eq-eqb, ne-eqb}
-use Rattle.walk.specs.Check.{linePlaced}
+use Rattle.acceptance.specs.Check.{linePlaced}
 use borrow.Author.Needs.{needs}
 use Rattle.walk.proofs.check.is_placed.Statement.{statement}
 use Rattle.walk.proofs.check.is_placed.Tie as tie

@@ -1,7 +1,7 @@
 -- Each return is the case of the definition that the tests on its path choose.
 use Rattle.laws.specs.Choice.{if_then_else_}
 use borrow.Author.Tests.{eq-eqb, ne-eqb, not-true, not-false}
-use Rattle.walk.specs.Check.{takeComponent}
+use Rattle.acceptance.specs.Check.{takeComponent}
 use Rattle.laws.proofs.Cases.{via}
 use borrow.Author.Needs.{needs}
 use Rattle.walk.proofs.check.take_component.Statement.{statement}

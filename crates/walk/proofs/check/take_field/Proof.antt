@@ -1,8 +1,8 @@
 -- Each return is the case of the definition that the tests on its path choose.
 use Rattle.laws.specs.Choice.{if_then_else_}
 use borrow.Author.Tests.{le-leb, lt-leb, eq-eqb, ne-eqb, not-true, not-false}
-use Rattle.walk.specs.Check.{takeField}
-use Rattle.walk.proofs.CodeSteps.{listed-new}
+use Rattle.acceptance.specs.Check.{takeField}
+use Rattle.acceptance.proofs.CodeSteps.{listed-new}
 use Rattle.laws.proofs.Cases.{via}
 use borrow.Author.Needs.{needs}
 use Rattle.walk.proofs.check.take_field.Statement.{statement}

@@ -1,7 +1,7 @@
 -- Each return is the case of the definition that the tests on its path choose.
 use Rattle.laws.specs.Choice.{if_then_else_}
 use borrow.Author.Tests.{eq-eqb, ne-eqb}
-use Rattle.walk.specs.Check.{takeLine}
+use Rattle.acceptance.specs.Check.{takeLine}
 use borrow.Author.Needs.{needs}
 use Rattle.walk.proofs.check.take_line.Statement.{statement}
 use Rattle.walk.proofs.check.take_line.Tie as tie

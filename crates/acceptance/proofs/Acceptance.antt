@@ -1,0 +1,30 @@
+-- The theorem that users rely on: an image is accepted exactly when it is well formed, and then the walk's counts and index are those
+-- of the grammar. The readers agree with the grammar (crate cmf), so nothing is left as a premise.
+use Prim.Native.Nat.{ℕ, _+_, _≤_}
+use mathlib.Core.Path.{_≡_}
+use mathlib.Core.List.{List}
+use lib.ListN.{length}
+use Rattle.cmf.specs.Grammar.{WellFormed}
+use Rattle.cmf.specs.Places.{componentsFrom}
+use Rattle.cmf.proofs.Agreeing.{agree}
+use Rattle.cmf.proofs.Onward.{component-onward}
+use Rattle.acceptance.specs.Check.{refusalOf}
+use Rattle.acceptance.proofs.Accepted as accepted
+use Rattle.acceptance.proofs.Unique as unique
+use Rattle.acceptance.proofs.Turns as turns
+
+module _ (im : List ℕ) (sheet : ℕ) where
+  pub accepted-exactly-when-well-formed : (refusalOf im sheet ≡ 0 → WellFormed im sheet) × (WellFormed im sheet → refusalOf im sheet ≡ 0)
+  accepted-exactly-when-well-formed = accepted.accepted-exactly-when-well-formed im sheet (agree im)
+
+  -- the walk's lines, fields and index are the derivation's
+  pub counted : (w : WellFormed im sheet) → accepted.Counted im sheet w
+  counted w = accepted.counted im sheet (agree im) w
+
+-- an image is read in one way only: its fields do not depend on the sheet
+pub same-fields : (im : List ℕ) (a b : ℕ) (v : WellFormed im a) (w : WellFormed im b) → v .fields ≡ w .fields
+same-fields im a b v w = unique.same-fields im (agree im) a b v w
+
+-- a bound on the components of a line beyond the image's length changes nothing
+pub components-enough : (im : List ℕ) (c k : ℕ) → length im + 1 ≤ k → componentsFrom im k c ≡ componentsFrom im (length im + 1) c
+components-enough im c k h = turns.components-enough im (component-onward im) c k h

@@ -1,0 +1,89 @@
+-- The theorem that users rely on: the check refuses an image with a number exactly when the definition of refusals says that number. So that
+-- definition gives an image one number at most, and one exactly where the image is not well formed.
+use Prim.Native.Nat.{ℕ, _<_}
+use mathlib.Core.Path.{_≡_, refl, sym, ap, _∙_}
+use mathlib.Core.List.{List, [], map}
+use native.Mathlib.Omega.{arith}
+use native.Mathlib.Nat.{zero-add}
+use borrow.Author.Tests.{eqb-true, eqb-false}
+use Rattle.laws.specs.Choice.{_=?_}
+use Rattle.laws.proofs.Cases.{if-ind, by-test, if-eq, if-ne}
+use Rattle.cmf.specs.Limits.{deepestTable, mostFields, prologBytes}
+use Rattle.cmf.specs.Grammar.{Prolog, WellFormed}
+use Rattle.cmf.proofs.Agreement.{Agree}
+use Rattle.cmf.proofs.Agreeing.{agree}
+use Rattle.acceptance.specs.Check.{State, entryOf, walked, prologCode, checked, refusalOf}
+use Rattle.acceptance.specs.Faults.{Refused}
+use Rattle.acceptance.proofs.Takes.{fits-takes, takes-fits, beside-none}
+use Rattle.acceptance.proofs.Accepted.{prolog-is, prolog-read}
+use Rattle.acceptance.proofs.Acceptance.{accepted-exactly-when-well-formed}
+use Rattle.acceptance.proofs.Judging.{judged-lowest, lowest-judged}
+use Rattle.acceptance.proofs.PrologJudging.{prolog-judged}
+use Rattle.acceptance.proofs.Answers.{answer, sits, judged}
+use Rattle.acceptance.proofs.Falls.{table-falls}
+use Rattle.acceptance.proofs.Finds.{table-finds}
+
+module _ (im : List ℕ) (sheet : ℕ) where
+  A : Agree im
+  A = agree im
+
+  -- a walk that is refused with a number: the definition says that number
+  walk-refused : (k : ℕ) → 0 < k → Prolog im → walked im sheet .walk .refusal ≡ k → Refused im sheet k
+  unfolding walked
+  walk-refused k pos p z =
+      let x = table-finds im A sheet mostFields deepestTable prologBytes 0 0 [] (omega arith) k pos z in
+      let f = takes-fits sheet mostFields (omega arith) (x .takes) in
+      let e : answer im sheet mostFields (x .structure) (x .count) (map entryOf (x .fields)) ≡ k = rw (zero-add (x .count)) at (x .answers) in
+      let d = judged im sheet (x .count) (x .fields) (x .structure) (sits im deepestTable prologBytes (x .structure) (x .fields) (x .count) (x .comes)) in
+      Refused.walk (x .structure) (x .fields) (x .count) p (x .comes)
+      (record { few-lines = omega (arith, x .room); few-fields = omega (arith, f .few); inside = f .inside; apart = f .apart })
+      (rw e at (judged-lowest d (omega arith)))
+
+  refused-is : (k : ℕ) → 0 < k → refusalOf im sheet ≡ k → Refused im sheet k
+  unfolding refusalOf checked
+  refused-is k pos =
+      if-ind (λ (s : State). s .walk .refusal ≡ k → Refused im sheet k) (prologCode im =? 0)
+      (λ e z. walk-refused k pos (prolog-read im (eqb-true _ 0 e)) z)
+      (λ e z. Refused.prolog (rw z at (judged-lowest (prolog-judged im) (omega arith))))
+
+  -- a number that the definition says: the check comes to that structure and answers it
+  is-refused : {k : ℕ} → Refused im sheet k → (refusalOf im sheet ≡ k) × (0 < k)
+  unfolding refusalOf checked walked
+  is-refused (Refused.prolog l) =
+      let j = lowest-judged (prolog-judged im) l in
+      (ap (λ (s : State). s .walk .refusal) (if-ne (prologCode im) 0 _ _ (λ z. omega (arith, j .1))) ∙ j .0, omega (arith, j .0, j .1))
+  is-refused {k} (Refused.walk x fs lines p c kept l) =
+      let j = lowest-judged (judged im sheet lines fs x (sits im deepestTable prologBytes x fs lines c)) l in
+      let t = fits-takes sheet mostFields [] {fs = fs} (omega (arith, kept .few-fields)) (kept .inside) (beside-none fs) (kept .apart) in
+      let pos : 0 < k = omega (arith, j .0, j .1) in (
+        ap (λ (s : State). s .walk .refusal) (if-eq (prologCode im) 0 _ _ (prolog-is im p))
+            ∙ table-falls im A sheet mostFields deepestTable prologBytes 0 0 [] x fs lines c t (omega (arith, kept .few-lines)) k pos (rw (zero-add lines) (j .0)),
+        pos,
+      )
+
+-- 01, Refusal numbers: the check answers a number exactly when the definition says it
+pub refused-exactly-when :
+    (im : List ℕ) (sheet k : ℕ) →
+    (((refusalOf im sheet ≡ k) × (k ≡ 0 → ⊥)) → Refused im sheet k) × (Refused im sheet k → (refusalOf im sheet ≡ k) × (k ≡ 0 → ⊥))
+refused-exactly-when im sheet k =
+    ((λ h. refused-is im sheet k (omega (arith, h .1)) (h .0)), (λ r. let h = is-refused im sheet r in (h .0, (λ z. omega (arith, h .1)))))
+
+-- an image is refused with one number only
+pub refused-once : (im : List ℕ) (sheet j k : ℕ) → Refused im sheet j → Refused im sheet k → j ≡ k
+refused-once im sheet j k x y = sym (is-refused im sheet x .0) ∙ is-refused im sheet y .0
+
+-- no image is both well formed and refused
+pub never-both : (im : List ℕ) (sheet k : ℕ) → WellFormed im sheet → Refused im sheet k → ⊥
+never-both im sheet k w r =
+    let h = is-refused im sheet r in omega (arith, h .0, h .1, accepted-exactly-when-well-formed im sheet .1 w)
+
+-- and each image is one of the two
+pub data Settled (im : List ℕ) (sheet : ℕ) : Type 0 where
+  accepted : WellFormed im sheet → Settled im sheet
+  refused : (k : ℕ) → Refused im sheet k → Settled im sheet
+
+pub settled : (im : List ℕ) (sheet : ℕ) → Settled im sheet
+settled im sheet =
+    by-test (refusalOf im sheet =? 0)
+    (λ e. Settled.accepted (accepted-exactly-when-well-formed im sheet .0 (eqb-true _ 0 e)))
+    (λ e. Settled.refused (refusalOf im sheet) (refused-is im sheet _ (omega (arith, eqb-false (refusalOf im sheet) 0 e)) refl))

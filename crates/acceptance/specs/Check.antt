@@ -1,0 +1,191 @@
+-- The check of an image and a sheet: 01's table of refusals, structure by structure in the order of the walk: depth first, lines in
+-- order, a line's components before its submenu; the first structure at fault decides, and at one structure the lowest number.
+use Prim.Native.Nat.{ℕ, zero, suc, _+_}
+use mathlib.Core.Bool.{Bool, true, false}
+use mathlib.Core.List.{List, [], _∷_, _++_}
+use lib.ListN.{length}
+use Rattle.laws.specs.Choice.{if_then_else_, _and_, _=?_, _<?_, _≤?_}
+use Rattle.laws.specs.Bytes.{byteAt, room}
+use Rattle.field.specs.Sheet.{sizeOf}
+use Rattle.field.specs.declared.record.Field.{Field}
+use Rattle.cmf.specs.Limits.{longestImage, deepestTable, mostLinesOfTable, mostLines, mostFields, longestSheet, prologBytes}
+use Rattle.cmf.specs.Readers.{oddFrom, titleAt, headAt, componentAt}
+use Rattle.cmf.specs.Places.{linesOf, componentsOf}
+use Rattle.cmf.specs.declared.title.Title.{Title}
+use Rattle.cmf.specs.declared.head.Head.{Head}
+use Rattle.cmf.specs.declared.component.Component.{Component}
+use Rattle.acceptance.specs.declared.index.Entry.{Entry}
+use Rattle.acceptance.specs.declared.state.Walk.{Walk}
+
+-- the walk's state, and the fields that it has taken, in order
+pub record State : Type 0 where
+  pub walk : Walk
+  pub fields : List Entry
+
+abbrev pub state : Walk → List Entry → State
+state w es = record { walk = w; fields = es }
+
+abbrev pub with : State → Walk → State
+with s w = state w (s .fields)
+
+-- no refusal so far
+unfoldable pub fine : State → Bool
+fine s = s .walk .refusal =? 0
+
+abbrev pub refused : Walk → ℕ → Walk
+refused w k = record { refusal = k; at = w .at; lines = w .lines; fields = w .fields }
+
+-- a thing that ends at `at` is read
+abbrev pub passed : Walk → ℕ → Walk
+passed w at = record { refusal = 0; at = at; lines = w .lines; fields = w .fields }
+
+-- the walk goes on behind a line that ends at `at`; where it is refused it stays where the last thing that stands ended
+abbrev pub behind : Walk → ℕ → Walk
+behind w at = record { refusal = w .refusal; at = if w .refusal =? 0 then at else w .at; lines = w .lines; fields = w .fields }
+
+-- the second, unless the first is a refusal
+unfoldable pub andThen : State → State → State
+andThen x y = if fine x then y else x
+
+-- R6: what stands at `place`, which is `at` or the byte behind it, follows what ended at `at`, at once or behind one zero byte
+unfoldable pub padded : List ℕ → ℕ → ℕ → Bool
+padded im at place = if at =? place then true else byteAt im at =? 0
+
+-- ---- a table's title
+
+unfoldable pub takeTitle : Title → Walk → Walk
+takeTitle t w = if t .refusal =? 0 then passed w (t .end) else refused w (t .refusal)
+
+-- ---- a line's head
+
+-- R8: the first mark stands at the first line only, and prev-line-ofs is the distance from the line before; n lines of the table come before
+unfoldable pub agrees : ℕ → ℕ → ℕ → Head → Bool
+agrees n before p h =
+    if n =? 0 then h .first
+    else if h .first then false
+    else before + h .back =? p
+
+-- R6, R7, R8: a line stands where the one before leads and at the first odd place
+unfoldable pub linePlaced : List ℕ → ℕ → ℕ → ℕ → Head → Walk → Bool
+linePlaced im n before p h w = (p =? oddFrom (w .at)) and (padded im (w .at) p and agrees n before p h)
+
+-- 01, row 8: the 100th line of its table or the 1,025th of the walk is at fault; row 9: so is a bad password
+unfoldable pub countLine : ℕ → Head → Walk → Walk
+countLine n h w =
+    if mostLinesOfTable ≤? n then refused w 8
+    else if mostLines ≤? w .lines then refused w 8
+    else if h .good then record { refusal = 0; at = h .end; lines = w .lines + 1; fields = w .fields }
+    else refused w 9
+
+unfoldable pub takeLine : List ℕ → ℕ → ℕ → ℕ → Head → Walk → Walk
+takeLine im n before p h w =
+    if h .refusal =? 0 then (if linePlaced im n before p h w then countLine n h w else refused w 7)
+    else refused w (h .refusal)
+
+-- ---- a component
+
+abbrev pub entryOf : Field → Entry
+entryOf f = record { place = f .image; from = f .sheet; size = sizeOf f }
+
+-- 01, row 10: the sheet is not too long, and the field's bytes lie in it
+unfoldable pub inSheet : ℕ → Entry → Bool
+inSheet sheet e = (sheet ≤? longestSheet) and room sheet (e .from .0) (e .size)
+
+-- 01, row 11: two fields share no byte if either has none or one ends where the other begins or before
+unfoldable pub apart : Entry → Entry → Bool
+apart e f =
+    if e .size =? 0 then true
+    else if f .size =? 0 then true
+    else if (e .from .0 + e .size) ≤? f .from .0 then true
+    else (f .from .0 + f .size) ≤? e .from .0
+
+-- a field shares no byte with any of the earlier ones
+unfoldable pub apartFrom : Entry → List Entry → Bool
+apartFrom e [] = true
+apartFrom e (f ∷ fs) = apart e f and apartFrom e fs
+
+-- a field: 8 if there are as many as there may be (`most`: the code's array has room for no more), 9 for bad settings, 10 and 11 for its bytes in the sheet
+unfoldable pub takeField : ℕ → ℕ → Component → State → State
+takeField sheet most c s =
+    if most ≤? s .walk .fields then with s (refused (s .walk) 8)
+    else if c .refusal =? 0 then
+    (if inSheet sheet (entryOf (c .field)) then
+    (if apartFrom (entryOf (c .field)) (s .fields) then
+    state (record { refusal = 0; at = c .end; lines = s .walk .lines; fields = s .walk .fields + 1 }) (s .fields ++ (entryOf (c .field) ∷ []))
+    else with s (refused (s .walk) 11))
+    else with s (refused (s .walk) 10))
+    else with s (refused (s .walk) (c .refusal))
+
+-- a component at a place: 6 first, then 7 for the padding before it
+unfoldable pub takeComponent : List ℕ → ℕ → ℕ → ℕ → Component → State → State
+takeComponent im sheet most p c s =
+    if c .refusal =? 6 then with s (refused (s .walk) 6)
+    else if padded im (s .walk .at) p then
+    (if c .holds then takeField sheet most c s
+    else if c .refusal =? 0 then with s (passed (s .walk) (c .end))
+    else with s (refused (s .walk) (c .refusal)))
+    else with s (refused (s .walk) 7)
+
+-- ---- the walk
+
+module _ (im : List ℕ) (sheet most : ℕ) where
+  unfoldable pub onComponent : ℕ → State → State
+  onComponent c s = takeComponent im sheet most c (componentAt im c) s
+
+  unfoldable pub onComponents : List ℕ → State → State
+  onComponents [] s = s
+  onComponents (c ∷ cs) s = andThen (onComponent c s) (onComponents cs (onComponent c s))
+
+  unfoldable pub onHead : ℕ → ℕ → ℕ → State → State
+  onHead n before p s = with s (takeLine im n before p (headAt im p) (s .walk))
+
+  unfoldable pub onTitle : ℕ → State → State
+  onTitle t s = with s (takeTitle (titleAt im t) (s .walk))
+
+  module _ (submenu : ℕ → State → State) where
+    -- a line's submenu; the walk then goes on behind the line
+    unfoldable pub onSubmenu : Head → State → State
+    onSubmenu h s = if h .submenu then with (submenu (h .table) s) (behind (submenu (h .table) s .walk) (s .walk .at)) else s
+
+    unfoldable pub onBody : ℕ → State → State
+    onBody p s = andThen (onComponents (componentsOf im p) s) (onSubmenu (headAt im p) (onComponents (componentsOf im p) s))
+
+    unfoldable pub onLine : ℕ → ℕ → ℕ → State → State
+    onLine n before p s = andThen (onHead n before p s) (onBody p (onHead n before p s))
+
+    -- the lines of a table from the nth on
+    unfoldable pub onLines : ℕ → ℕ → List ℕ → State → State
+    onLines n before [] s = s
+    onLines n before (p ∷ ps) s = andThen (onLine n before p s) (onLines (n + 1) p ps (onLine n before p s))
+
+  -- the table at a place; so many levels are left, its own among them. R15: a table too deep is 6 if its title is not all there, else 8
+  unfoldable pub onTable : ℕ → ℕ → State → State
+  onTable zero t s = andThen (onTitle t s) (with (onTitle t s) (refused (onTitle t s .walk) 8))
+  onTable (suc left) t s = andThen (onTitle t s) (onLines (onTable left) 0 0 (linesOf im t) (onTitle t s))
+
+abbrev pub start : State
+start = state (record { refusal = 0; at = 0; lines = 0; fields = 0 }) []
+
+-- the walk from the top table on
+unfoldable pub walked : List ℕ → ℕ → State
+walked im sheet = onTable im sheet mostFields deepestTable prologBytes start
+
+-- 01, rows 2 to 5: the prolog
+unfoldable pub prologCode : List ℕ → ℕ
+prologCode im =
+    if length im <? prologBytes then 2
+    else if longestImage <? length im then 2
+    else if (byteAt im 0 =? 0x43) and ((byteAt im 1 =? 0x4d) and (byteAt im 2 =? 0x46)) then
+    (if (byteAt im 3 =? 0) and (byteAt im 4 =? 4) then
+    (if (byteAt im 8 =? 0xff) and (byteAt im 9 =? 0xfe) then 0 else 5)
+    else 4)
+    else 3
+
+-- the refusal number of an image for a sheet of so many bytes, 0 for none, with the fields that were taken
+unfoldable pub checked : List ℕ → ℕ → State
+checked im sheet =
+    if prologCode im =? 0 then walked im sheet
+    else with start (refused (start .walk) (prologCode im))
+
+unfoldable pub refusalOf : List ℕ → ℕ → ℕ
+refusalOf im sheet = checked im sheet .walk .refusal

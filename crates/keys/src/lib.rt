@@ -1,0 +1,2 @@
+// What each key makes of the working copy of a visit.
+pub mod press;

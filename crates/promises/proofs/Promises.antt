@@ -1,0 +1,220 @@
+-- The three demands: each part is a theorem of another file, or an equation of a call's definition.
+use Prim.Native.Nat.{ℕ, _+_, _*_, _≤_, _<_}
+use mathlib.Core.Path.{_≡_, refl, sym, ap, _∙_}
+use mathlib.Core.Logic.{_⊎_, inl, inr}
+use mathlib.Core.Bool.{Bool, true, false, false≢true}
+use mathlib.Core.List.{List, [], _∷_, map, List·Memᴰ, List·Memᴰ·head, List·Memᴰ·tail, List·Memᴰ·cases-cons, List·Memᴰ·not-nil}
+use native.Mathlib.Omega.{arith}
+use lib.ListN.{length}
+use borrow.Author.Tests.{eqb-true, eqb-false, lt-ltb, ltb-true}
+use Rattle.laws.specs.Choice.{if_then_else_, _and_, _=?_, _<?_, _≤?_}
+use Rattle.laws.specs.Parts.{partAt}
+use Rattle.laws.proofs.Cases.{by-test, if-true, if-false, if-eq, if-ne, and-i, and-l, and-r}
+use Rattle.field.specs.Values.{bytesOf}
+use Rattle.field.specs.Sheet.{sizeOf}
+use Rattle.field.specs.declared.record.Field.{Field}
+use Rattle.cmf.specs.Grammar.{WellFormed}
+use Rattle.acceptance.specs.Check.{entryOf, checked, refusalOf}
+use Rattle.acceptance.proofs.Acceptance.{accepted-exactly-when-well-formed, counted}
+use Rattle.acceptance.proofs.Faulty.{refused-exactly-when}
+use Rattle.acceptance.proofs.Fields.{every-in}
+use Rattle.session.specs.Events.{second}
+use Rattle.session.specs.Fits.{shapeFits, sessionFits}
+use Rattle.session.specs.declared.session.Session.{Session}
+use Rattle.session.proofs.Closed.{closed-never-fits}
+use Rattle.handset.specs.Refusals.{_before_, _unless_, sessionRefusal}
+use Rattle.handset.specs.Event.{eventRefusal}
+use Rattle.handset.specs.Open.{openRefusal, openAnswer, openSheet}
+use Rattle.handset.specs.OptionText.{reached, itemsIn, textRefusal, optionText}
+use Rattle.handset.specs.Draw.{drawRefusal, drawCursor, drawnPicture}
+use Rattle.handset.proofs.Ordering.{first-given, next-given, holding, failing, none-before, none-unless}
+use Rattle.handset.proofs.Stepping.{refused-step, refused-sheet, stepped, stepped-sheet}
+use Rattle.handset.proofs.Defaults.{all, others-stay}
+use Rattle.handset.proofs.Items.{item-is}
+use Rattle.journal.specs.Journal.{allVisited}
+use Rattle.journal.specs.Rules.{fieldAt, rulesOf, IsField, Beside}
+use Rattle.journal.specs.Sitting.{begunWith}
+use Rattle.promises.specs.Promises.{Demand1, Demand2, Demand3, Candidate, start, visitsAt, bytesAt}
+use Rattle.journal.proofs.Sittings.{formed, at-default, sheet-holds-journal, default-changed-by-own-visits, own-visits-finish}
+use Rattle.journal.proofs.Beside.{played-apart}
+use Rattle.protected.proofs.Protected.{only-after-its-digits, every-protected-line-was-opened-by-its-digits}
+use Rattle.promises.proofs.Unrefused.{never-refused}
+
+-- ---- the order of refusals, as choices
+
+-- a test behind a number
+one-test : (r a : ℕ) (t : Bool) → r before (a unless t) ≡ (if r =? 0 then (if t then 0 else a) else r)
+unfolding _before_ _unless_
+one-test r a t = refl
+
+-- and another behind both
+two-tests : (r a b : ℕ) (t u : Bool) → (a ≡ 0 → ⊥) → (r before (a unless t)) before (b unless u) ≡ (if r =? 0 then (if t then (if u then 0 else b) else a) else r)
+unfolding _unless_
+two-tests r a b t u h =
+    by-test (r =? 0)
+    (λ z. let e = eqb-true r 0 z in
+    rw (if-true {t = r =? 0} (if t then (if u then 0 else b) else a) r z, next-given r (if t then 0 else a) e)
+    (by-test t (λ y. rw (if-true {t = t} (if u then 0 else b) a y, if-true {t = t} 0 a y) (next-given 0 _ refl))
+    (λ y. rw (if-false {t = t} (if u then 0 else b) a y, if-false {t = t} 0 a y) (first-given a _ h))))
+    (λ z. let e = eqb-false r 0 z in
+    rw (if-false {t = r =? 0} (if t then (if u then 0 else b) else a) r z, first-given r (if t then 0 else a) e) (first-given r _ e))
+
+open-order : (im : List ℕ) (sheet columns lines : ℕ) → openRefusal im sheet columns lines ≡ (if shapeFits columns lines then refusalOf im sheet else 1)
+unfolding openRefusal
+open-order im sheet columns lines =
+    by-test (shapeFits columns lines)
+    (λ z. rw (if-true {t = shapeFits columns lines} (refusalOf im sheet) 1 z, holding 1 (shapeFits columns lines) z) (next-given 0 _ refl))
+    (λ z. rw (if-false {t = shapeFits columns lines} (refusalOf im sheet) 1 z, failing 1 (shapeFits columns lines) z) (first-given 1 _ (λ e. omega arith)))
+
+event-order : (im : List ℕ) (sheet : ℕ) (s : Session) (e : ℕ)
+    → eventRefusal im sheet s e
+    ≡ (if refusalOf im sheet =? 0 then (if sessionFits im s then (if e ≤? second then 0 else 13) else 12) else refusalOf im sheet)
+unfolding eventRefusal sessionRefusal
+event-order im sheet s e = two-tests (refusalOf im sheet) 12 13 (sessionFits im s) (e ≤? second) (λ z. omega arith)
+
+draw-order : (im : List ℕ) (sheet : ℕ) (s : Session) (n : ℕ)
+    → drawRefusal im sheet s n
+    ≡ (if refusalOf im sheet =? 0 then (if sessionFits im s then (if n =? s .columns * s .lines then 0 else 1) else 12) else refusalOf im sheet)
+unfolding drawRefusal sessionRefusal
+draw-order im sheet s n = two-tests (refusalOf im sheet) 12 1 (sessionFits im s) (n =? s .columns * s .lines) (λ z. omega arith)
+
+text-order : (im : List ℕ) (sheet place item : ℕ)
+    → textRefusal im sheet place item
+    ≡ (if refusalOf im sheet =? 0
+    then (if reached place (checked im sheet .fields) and (item <? itemsIn (fieldAt im place .kind)) then 0 else 14)
+    else refusalOf im sheet)
+unfolding textRefusal
+text-order im sheet place item = one-test (refusalOf im sheet) 14 _
+
+-- ---- demand 1
+
+pub demand-1 : Demand1
+unfolding openAnswer openSheet drawCursor drawnPicture optionText
+demand-1 = record {
+  number = refused-exactly-when;
+  open-number = open-order;
+  event-number = event-order;
+  draw-number = draw-order;
+  text-number = text-order;
+  open-tells = λ im sheet columns lines. refl;
+  open-closes = λ im sheet columns lines h. if-ne (openRefusal im sheet columns lines) 0 _ _ h;
+  open-keeps = λ im sheet columns lines h. if-ne (openRefusal im (length sheet) columns lines) 0 _ _ h;
+  closed-unfit = closed-never-fits;
+  event-returns = λ im sheet s e h. sym (refused-step im sheet s e _ refl h);
+  event-keeps = λ im sheet s e h. sym (refused-sheet im sheet s e _ refl h);
+  draw-nowhere = λ im sheet s n h. if-ne (drawRefusal im sheet s n) 0 _ _ h;
+  draw-keeps = λ im sheet s picture h. if-ne (drawRefusal im (length sheet) s (length picture)) 0 _ _ h;
+  text-empty = λ im sheet place item h. if-ne (textRefusal im sheet place item) 0 _ _ h;
+}
+
+-- every field of the derivation is read at its place, so that `IsField` misses none
+pub field-stands : (im : List ℕ) (n : ℕ) (w : WellFormed im n) (g : Field) → List·Memᴰ g (w .fields) → (fieldAt im (g .image .0) ≡ g) × IsField im (g .image .0)
+field-stands im n w g m =
+    let e = every-in (all im n w) g m .reads in
+    (e, record { sheet = n; formed = w; known = rw e m })
+
+-- what lies apart from every place of a field lies apart from every field
+apart-from-fields : (im : List ℕ) (n : ℕ) (w : WellFormed im n) (from k : ℕ)
+    → Beside im from k → (g : Field) → List·Memᴰ g (w .fields) → (from + k ≤ g .sheet .0) ⊎ (g .sheet .0 + sizeOf g ≤ from)
+apart-from-fields im n w from k h g m = let f = field-stands im n w g m in rw (f .0) at (h .beside (g .image .0) (f .1))
+
+sheet-beside : (im sheet : List ℕ) (columns lines : ℕ) (h : openRefusal im (length sheet) columns lines ≡ 0) (from n : ℕ) → Beside im from n
+    → partAt from n (begunWith im sheet columns lines .sheet) ≡ partAt from n sheet
+unfolding begunWith openSheet
+sheet-beside im sheet columns lines h from n b =
+    ap (partAt from n) (if-eq (openRefusal im (length sheet) columns lines) 0 _ _ h)
+    ∙ others-stay im sheet (formed im sheet columns lines h) from n (apart-from-fields im (length sheet) (formed im sheet columns lines h) from n b)
+
+-- Open accepts exactly the well-formed images, on a display of a shape that is allowed
+open-well : (im : List ℕ) (sheet columns lines : ℕ)
+    → (openRefusal im sheet columns lines ≡ 0 → (shapeFits columns lines ≡ true) × WellFormed im sheet)
+    × ((shapeFits columns lines ≡ true) × WellFormed im sheet → openRefusal im sheet columns lines ≡ 0)
+unfolding openRefusal
+open-well im sheet columns lines =
+    let a = accepted-exactly-when-well-formed im sheet in (
+      λ z. let n = none-before _ _ z in (none-unless 1 (shapeFits columns lines) (λ e. omega arith) (n .0), a .0 (n .1)),
+      λ h. next-given _ _ (holding 1 (shapeFits columns lines) (h .0)) ∙ a .1 (h .1),
+    )
+
+-- a field of a list that stands at a place
+record Placed (p : ℕ) (fs : List Field) : Type 0 where
+  field : Field
+  known : List·Memᴰ field fs
+  place : field .image .0 ≡ p
+
+-- a field of the image is reached at its place
+field-reached : (f : Field) (fs : List Field) → List·Memᴰ f fs → reached (f .image .0) (map entryOf fs) ≡ true
+unfolding reached
+field-reached f [] m = absurd (List·Memᴰ·not-nil m)
+field-reached f (g ∷ fs) m =
+    by-test (g .image .0 =? f .image .0) (λ z. if-true _ _ z)
+    (λ z. if-false _ _ z ∙ field-reached f fs (elsewhere z (List·Memᴰ·cases-cons m)))
+  where
+    elsewhere : g .image .0 =? f .image .0 ≡ false → (f ≡ g) ⊎ List·Memᴰ f fs → List·Memᴰ f fs
+    elsewhere z (inl e) = absurd (eqb-false _ _ z (ap (λ (x : Field). x .image .0) (sym e)))
+    elsewhere z (inr k) = k
+
+given-text : (im : List ℕ) (sheet : ℕ) (w : WellFormed im sheet) (f : Field) → List·Memᴰ f (w .fields) → (item : ℕ) → item < itemsIn (f .kind)
+    → textRefusal im sheet (f .image .0) item ≡ 0
+unfolding textRefusal
+given-text im sheet w f m item h =
+    next-given _ _ (accepted-exactly-when-well-formed im sheet .1 w)
+    ∙ holding 14 _
+    (and-i (rw (counted im sheet w .index) (field-reached f (w .fields) m))
+    (rw (field-stands im sheet w f m .0) (lt-ltb item (itemsIn (f .kind)) h)))
+
+-- and nothing else is reached
+reached-field : (p : ℕ) (fs : List Field) → reached p (map entryOf fs) ≡ true → Placed p fs
+unfolding reached
+reached-field p [] h = absurd (false≢true h)
+reached-field p (g ∷ fs) h =
+    by-test (g .image .0 =? p) (λ z. record { field = g; known = List·Memᴰ·head refl; place = eqb-true _ _ z })
+    (λ z. let r = reached-field p fs (sym (if-false _ _ z) ∙ h) in record { field = r .field; known = List·Memᴰ·tail (r .known); place = r .place })
+
+only-text : (im : List ℕ) (sheet place item : ℕ) → textRefusal im sheet place item ≡ 0 → IsField im place × (item < itemsIn (fieldAt im place .kind))
+unfolding textRefusal
+only-text im sheet place item h =
+    let n = none-before _ _ h in
+    let w = accepted-exactly-when-well-formed im sheet .0 (n .0) in
+    let b = none-unless 14 _ (λ e. omega arith) (n .1) in
+    let r = reached-field place (w .fields) (rw (counted im sheet w .index) at (and-l _ _ b)) in
+    (rw (r .place) at (field-stands im sheet w (r .field) (r .known) .1), ltb-true item _ (and-r _ _ b))
+
+pub demand-2 : Demand2
+unfolding begunWith openAnswer drawCursor drawnPicture
+demand-2 = record {
+  accepted = accepted-exactly-when-well-formed;
+  open-accepts = open-well;
+  opens = λ im sheet columns lines h. if-eq (openRefusal im sheet columns lines) 0 _ _ h;
+  defaults = at-default;
+  nothing-else = sheet-beside;
+  every-field = field-stands;
+  steps = λ im sheet s e h. sym (stepped im sheet s e _ refl h);
+  stores = λ im sheet s e h. sym (stepped-sheet im sheet s e _ refl h);
+  draws = λ im sheet s picture h. if-eq (drawRefusal im (length sheet) s (length picture)) 0 _ _ h;
+  points = λ im sheet s n h. if-eq (drawRefusal im sheet s n) 0 _ _ h;
+  text-given = given-text;
+  text-only = only-text;
+  texts = item-is;
+  protected = only-after-its-digits;
+  unlocked = every-protected-line-was-opened-by-its-digits;
+}
+
+-- C: two candidates with the same finished visits at a field, in whatever order they went from field to field
+two-candidates : (im : List ℕ) (a b : Candidate im) (q : ℕ) → IsField im q → visitsAt a q ≡ visitsAt b q → bytesAt a q ≡ bytesAt b q
+two-candidates im a b q f h =
+    default-changed-by-own-visits im (a .sheet) (a .columns) (a .lines) (a .accepted) (a .events) q f
+    ∙ ap (allVisited (rulesOf im) q (bytesOf (fieldAt im q .default))) h
+    ∙ sym (default-changed-by-own-visits im (b .sheet) (b .columns) (b .lines) (b .accepted) (b .events) q f)
+
+pub demand-3 : Demand3
+demand-3 = record {
+  journal = λ {im} c. sheet-holds-journal im (c .sheet) (c .columns) (c .lines) (c .accepted) (c .events);
+  visits = λ {im} c q f. default-changed-by-own-visits im (c .sheet) (c .columns) (c .lines) (c .accepted) (c .events) q f;
+  finishes = λ {im} c q. own-visits-finish im (c .sheet) (c .columns) (c .lines) (c .accepted) (c .events) q;
+  candidates = λ {im} a b q f h. two-candidates im a b q f h;
+  beside = λ {im} c from n b.
+      played-apart im from n b (c .events) (start c)
+      ∙ sheet-beside im (c .sheet) (c .columns) (c .lines) (c .accepted) from n b;
+  never-refused = λ {im} c. never-refused im (c .sheet) (c .columns) (c .lines) (c .accepted) (c .events);
+}

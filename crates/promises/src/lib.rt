@@ -1,0 +1,1 @@
+// Theorems alone: what is promised of the executor, demand by demand, on one page: specs/Promises.antt.

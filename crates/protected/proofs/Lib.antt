@@ -1,0 +1,4 @@
+pub mod Passwords
+pub mod Moves
+pub mod Protected
+pub mod EntryCases

@@ -1,0 +1,1 @@
+// Theorems alone: a protected line opens its submenu only after its own digits.

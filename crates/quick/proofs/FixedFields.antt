@@ -1,0 +1,162 @@
+-- Fields without texts, recognised by a few tests on their bytes.
+use Prim.Native.Nat.{ℕ, _+_, _-_, _%_, _^_, _≤_, _<_}
+use mathlib.Core.Path.{_≡_, refl, ap, _∙_}
+use mathlib.Core.Bool.{Bool, true, false}
+use mathlib.Core.List.{List, [], _∷_}
+use native.Mathlib.Omega.{arith}
+use native.Mathlib.Nat.{add-assoc}
+use lib.ListN.{length, getD}
+use borrow.Author.Tests.{eqb-true}
+use Rattle.laws.specs.Choice.{if_then_else_, _=?_}
+use Rattle.laws.specs.Bytes.{byteAt, wordAt}
+use Rattle.field.specs.Formats.{formatOf, limitOf, numeralOf}
+use Rattle.field.specs.Table.{profileOf}
+use Rattle.field.specs.Cells.{spans, inRange}
+use Rattle.field.specs.Settings.{stepFits, widthFits, settingsFit}
+use Rattle.field.specs.Sheet.{sizeOf}
+use Rattle.field.specs.Values.{valueAt}
+use Rattle.field.specs.declared.kind.Kind.the-variants.{Integer, Counter}
+use Rattle.field.specs.declared.record.Field.{Field}
+use Rattle.field.proofs.Bounds.{limit-le, limit-bytes}
+use Rattle.field.proofs.Fitting.{two-bytes, three-bytes, four-bytes, spans-above, spans-below, integer-fits, counter-fits, time-fits, date-fits}
+use Rattle.cmf.specs.Limits.{mostFields}
+use Rattle.cmf.specs.Layouts.{Component, integerAt, counterSettingsAt, counterAt, timeLongAt, timeShortAt, dateLongAt, dateShortAt, triggerAt}
+use Rattle.cmf.proofs.Codes.{passAll, passes}
+use Rattle.cmf.proofs.Usual.{one-byte, short-bytes, long-bytes}
+use Rattle.quick.specs.declared.stage.Stage.{Stage}
+use Rattle.quick.specs.Accept.{Claimed, Claims, Held, Passes}
+use Rattle.quick.proofs.Marks.{claimed-none}
+
+-- ---- integers
+
+-- a table that has the right number for each code, by computing it
+abbrev pub RightAt : (ℕ → ℕ) → List ℕ → Type 0
+RightAt f table = passAll (λ (c : ℕ). getD table c 0 =? f c) 11 ≡ true
+
+right-at : (f : ℕ → ℕ) (table : List ℕ) → RightAt f table → (c : ℕ) → c ≤ 0x0a → getD table c 0 ≡ f c
+right-at f table e c h = eqb-true (getD table c 0) (f c) (passes (λ (c : ℕ). getD table c 0 =? f c) 11 e c (omega arith))
+
+-- how far a code's range goes above 0, and how far below it
+abbrev pub above : ℕ → ℕ
+above c = numeralOf (formatOf c) .above
+
+abbrev pub below : ℕ → ℕ
+below c = numeralOf (formatOf c) .below
+
+pub above-fits : (table : List ℕ) (c x : ℕ) → x ≤ getD table c 0 → c ≤ 0x0a → RightAt above table → spans (numeralOf (formatOf c)) x ≡ true
+above-fits table c x h k r = spans-above (numeralOf (formatOf c)) x (omega (arith, right-at above table r c k))
+
+module _ (table : List ℕ) (c limit x : ℕ) (k : c ≤ 0x0a) (e : limit ≡ limitOf (formatOf c)) (l : x < limit) (r : RightAt below table) where
+  pub below-small : x + getD table c 0 < 131072
+  below-small = omega (arith, limit-le (formatOf c), right-at below table r c k)
+
+  pub below-fits : limit ≤ x + getD table c 0 → spans (numeralOf (formatOf c)) x ≡ true
+  below-fits h = spans-below (numeralOf (formatOf c)) x (omega (arith, right-at below table r c k)) (omega arith)
+
+-- how many numbers the bytes hold
+pub short-limit : (c : ℕ) → c ≤ 0x04 → limitOf (formatOf c) ≡ 256
+short-limit c h = limit-bytes (formatOf c) ∙ ap (λ (n : ℕ). 256 ^ n) (short-bytes c h)
+
+pub long-limit : (c : ℕ) → 0x04 < c → c ≤ 0x0a → limitOf (formatOf c) ≡ 65536
+long-limit c l h = limit-bytes (formatOf c) ∙ ap (λ (n : ℕ). 256 ^ n) (long-bytes c l h)
+
+module _ (im : List ℕ) (at end : ℕ) (inside : end ≤ length im) where
+  pub byte-is :
+      (c : ℕ) → byteAt im at % 32 ≡ c → c ≤ 0x04 → end ≡ at + 7 → spans (numeralOf (formatOf c)) (byteAt im (at + 6)) ≡ true →
+      Component im at end (integerAt im at ∷ [])
+  byte-is c k h e s =
+      let b = short-bytes c h in
+      let g : settingsFit (Integer (formatOf c)) (valueAt (at + 6) 1 im) ≡ true = integer-fits (formatOf c) (valueAt (at + 6) 1 im) (rw (one-byte (at + 6) im) s) in
+      Component.integer (omega arith) (record { ends = rw (k, b) e; inside = inside }) (record { good = rw (k, b) g })
+
+  pub word-is :
+      (c : ℕ) → byteAt im at % 32 ≡ c → 0x04 < c → c ≤ 0x0a → end ≡ at + 8 → spans (numeralOf (formatOf c)) (wordAt im (at + 6)) ≡ true →
+      Component im at end (integerAt im at ∷ [])
+  word-is c k l h e s =
+      let b = long-bytes c l h in
+      let g : settingsFit (Integer (formatOf c)) (valueAt (at + 6) 2 im) ≡ true = integer-fits (formatOf c) (valueAt (at + 6) 2 im) (rw (two-bytes (at + 6) im) s) in
+      Component.integer (omega arith) (record { ends = rw (k, b) e; inside = inside }) (record { good = rw (k, b) g })
+
+  -- ---- counters
+
+  pub counter-is :
+      byteAt im at % 32 ≡ 0x0d → end ≡ at + 15 → stepFits (counterSettingsAt im at) ≡ true → widthFits (counterSettingsAt im at) ≡ true →
+      inRange (Counter (counterSettingsAt im at)) (wordAt im (at + 12)) ≡ true → Component im at end (counterAt im at ∷ [])
+  unfolding profileOf
+  counter-is k e a b r =
+      Component.counter k (record { ends = e; inside = inside })
+      (record { good = counter-fits (counterSettingsAt im at) (valueAt (at + 12) 2 im) a b (rw (two-bytes (at + 12) im) r) })
+
+  -- ---- times and dates
+
+  pub time-long-is :
+      byteAt im at % 32 ≡ 0x0f → end ≡ at + 9 → byteAt im (at + 6) ≤ 23 → byteAt im (at + 7) ≤ 59 → byteAt im (at + 8) ≤ 59 →
+      Component im at end (timeLongAt im at ∷ [])
+  unfolding profileOf if_then_else_
+  time-long-is k e h m s =
+      let n = simp add-assoc at (three-bytes (at + 6) im) in
+      Component.time-long k (record { ends = e; inside = inside })
+      (record { good = time-fits true (valueAt (at + 6) 3 im) (omega arith) (omega arith) (omega arith) })
+
+  pub time-short-is :
+      byteAt im at % 32 ≡ 0x10 → end ≡ at + 8 → byteAt im (at + 6) ≤ 23 → byteAt im (at + 7) ≤ 59 → Component im at end (timeShortAt im at ∷ [])
+  unfolding profileOf if_then_else_ wordAt
+  time-short-is k e h m =
+      let n = simp add-assoc at (two-bytes (at + 6) im) in
+      Component.time-short k (record { ends = e; inside = inside })
+      (record { good = time-fits false (valueAt (at + 6) 2 im) (omega arith) (omega arith) (omega arith) })
+
+  pub date-long-is :
+      byteAt im at % 32 ≡ 0x11 → end ≡ at + 10 → 1 ≤ byteAt im (at + 6) → byteAt im (at + 6) ≤ 31 → 1 ≤ byteAt im (at + 7) → byteAt im (at + 7) ≤ 12 →
+      wordAt im (at + 8) ≤ 9999 → Component im at end (dateLongAt im at ∷ [])
+  unfolding profileOf if_then_else_ wordAt
+  date-long-is k e a b c d y =
+      let n = simp add-assoc at (four-bytes (at + 6) im) in
+      let z = simp add-assoc at y in
+      Component.date-long k (record { ends = e; inside = inside })
+      (record { good = date-fits true (valueAt (at + 6) 4 im) (omega arith) (omega arith) (omega arith) (omega arith) (omega arith) })
+
+  pub date-short-is :
+      byteAt im at % 32 ≡ 0x12 → end ≡ at + 9 → 1 ≤ byteAt im (at + 6) → byteAt im (at + 6) ≤ 31 → 1 ≤ byteAt im (at + 7) → byteAt im (at + 7) ≤ 12 →
+      byteAt im (at + 8) ≤ 99 → Component im at end (dateShortAt im at ∷ [])
+  unfolding profileOf if_then_else_
+  date-short-is k e a b c d y =
+      let n = simp add-assoc at (three-bytes (at + 6) im) in
+      Component.date-short k (record { ends = e; inside = inside })
+      (record { good = date-fits false (valueAt (at + 6) 3 im) (omega arith) (omega arith) (omega arith) (omega arith) (omega arith) })
+
+  -- ---- triggers
+
+  pub trigger-is : byteAt im at % 32 ≡ 0x17 → end ≡ at + 4 → Component im at end (triggerAt im at ∷ [])
+  trigger-is k e = Component.trigger k (record { ends = e; inside = inside })
+
+-- ---- in the walk
+
+-- a field with its place and its bytes in the sheet
+pub held :
+    (im : List ℕ) {at end size : ℕ} {f : Field} → (at + 6 ≤ length im) × Component im at end (f ∷ []) → f .sheet .0 ≡ wordAt im (at + 4) →
+    sizeOf f ≡ size → (at + 6 ≤ length im) × Held im at end size
+held im {f = f} g p b = (g .0, record { field = f; component = g .1; place = p; bytes = b })
+
+module _ (im : List ℕ) {sheet p end : ℕ} {v : Stage} (good : Bool) (room : v .fields < mostFields) where
+  -- a field whose bytes are claimed, and a trigger, which has none
+  pub fixed-passes :
+      {from size : ℕ} {old new : List ℕ} → Held im p end size → from ≡ wordAt im (p + 4) → Claimed sheet old new from size →
+      Passes im sheet p v (record { good = good; at = end; lines = v .lines; fields = v .fields + 1 }) old new
+  fixed-passes h e k = record {
+    fields = h .field ∷ [];
+    component = h .component;
+    lines = refl;
+    claims = Claims.one {f = h .field} room refl (rw (h .place, h .bytes, ← e) k);
+  }
+
+  pub trigger-passes :
+      (marks : List ℕ) → Component im p end (triggerAt im p ∷ []) →
+      Passes im sheet p v (record { good = good; at = end; lines = v .lines; fields = v .fields + 1 }) marks marks
+  unfolding profileOf
+  trigger-passes marks c = record {
+    fields = triggerAt im p ∷ [];
+    component = c;
+    lines = refl;
+    claims = Claims.one room refl (claimed-none sheet marks 0 (omega arith));
+  }

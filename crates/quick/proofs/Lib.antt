@@ -1,0 +1,6 @@
+pub mod Spots
+pub mod Marks
+pub mod Pieces
+pub mod FixedFields
+pub mod Accepting
+pub mod AcceptingTables

@@ -1,0 +1,22 @@
+-- Without doubt nothing is refused; in doubt the check proper answers.
+use mathlib.Core.Path.{sym, ap}
+use Rattle.acceptance.specs.Check.{State, refusalOf}
+use borrow.Author.Needs.{needs}
+use Rattle.quick.proofs.accept.refusal_of.Statement.{statement}
+use Rattle.quick.proofs.accept.refusal_of.Tie as tie
+
+is-accepted-requires : tie.Need-is-accepted-requires
+is-accepted-requires c κs = search needs
+
+returns : tie.Need-returns
+returns c = sym (c .before .is-accepted .ensures (c .if1 .taken))
+
+check-requires : tie.Need-check-requires
+check-requires c κs = search needs
+
+returns-2 : tie.Need-returns-2
+unfolding refusalOf
+returns-2 c = ap (λ (s : State). s .walk .refusal) (c .check .ensures)
+
+pub refusal-of-spec : {M : Type 1} → statement M
+refusal-of-spec = tie.close (tie.spec is-accepted-requires returns check-requires returns-2)

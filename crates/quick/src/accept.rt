@@ -1,0 +1,188 @@
+// The check of an image without fault, in one quick walk: where anything gives it doubt, the check proper is asked for the refusal.
+ghost use mathlib.Core.Path.{_≡_};
+ghost use mathlib.Core.Bool.{true, false};
+ghost use Prim.Native.Nat.{_*_, _<_, _≤_};
+ghost use lib.ListN.{length};
+ghost use Rattle.cmf.specs.Limits.{mostFields};
+ghost use Rattle.cmf.specs.Grammar.{passwordAt};
+ghost use Rattle.acceptance.specs.Check.{onTable, refusalOf};
+ghost use Rattle.quick.specs.Accept.{Reaches, Moves, Leaves};
+use crate::claim::WORDS;
+use crate::components::accept_component;
+use crate::heads::accept_head;
+use crate::heads::next_of;
+use crate::heads::submenu_of;
+use crate::run::run;
+use crate::spot::Spot;
+use crate::stage::Stage;
+use cmf::image::Image;
+use cmf::title::read_title;
+use walk::check::check;
+use walk::check::prolog_code;
+
+// A spot that gives doubt.
+fn doubtful(s: Spot) -> Spot
+    ensures { λ r. ⌜ r .stage .good ≡ false ⌝ }
+{
+    Spot {
+        stage: Stage::doubt(),
+        n: s.n,
+        line: s.line,
+        done: true,
+    }
+}
+
+// One component more, of any kind but an option: one that the loop has left is in doubt. It is at fault, or it has one empty item and ends the image.
+fn take_other(image: &[u8], sheet: usize, s: Spot, marks: &mut [u64]) -> Spot
+    requires { ⌜ (s .done ≡ false) × (passwordAt (now image) (s .line) ≤ length (now image)) × (s .stage .at ≤ length (now image)) × (sheet ≤ 64 * length (now marks)) ⌝ }
+    ensures { λ r. ⌜ (r .stage .good ≡ true → Moves (now (image .entry)) sheet s r (now (marks .entry)) (now (marks .exit)) × (s .stage .at < r .stage .at)) ⌝ }
+{
+    let at = s.stage.at;
+    let p = at + at % 2;
+    if image.len() <= p {
+        return doubtful(s);
+    }
+    let w = accept_component(image, sheet, p, s.stage, &mut *marks);
+    Spot {
+        stage: w,
+        n: s.n,
+        line: s.line,
+        done: image[p] / 128 % 2 == 1,
+    }
+}
+
+// From a spot within a line to the end of this line, or of a later one of its table.
+fn pass_lines(image: &[u8], sheet: usize, start: Spot, marks: &mut [u64]) -> Spot
+    requires { ⌜ (start .done ≡ false) × (passwordAt (now image) (start .line) ≤ length (now image)) × (start .stage .at ≤ length (now image)) × (sheet ≤ 64 * length (now marks)) ⌝ }
+    ensures { λ r. ⌜ (r .stage .good ≡ true → (r .done ≡ true) × Moves (now (image .entry)) sheet start r (now (marks .entry)) (now (marks .exit))) ⌝ }
+{
+    let mut s = start;
+    while s.stage.at < image.len() {
+        let usual = run(image, sheet, s, &mut *marks);
+        if usual.done {
+            return usual;
+        }
+        s = take_other(image, sheet, usual, &mut *marks);
+        if !s.stage.good {
+            return s;
+        }
+        if s.done {
+            return s;
+        }
+    }
+    doubtful(s)
+}
+
+// Behind a line's components, which end where the walk stands: its submenu, if it has one; `below` levels are left for it.
+fn accept_submenu(
+    image: &[u8],
+    sheet: usize,
+    below: usize,
+    line: usize,
+    w: Stage,
+    marks: &mut [u64],
+) -> Stage
+    requires { ⌜ (passwordAt (now image) line ≤ length (now image)) × (sheet ≤ 64 * length (now marks)) ⌝ }
+    ensures { λ r. ⌜ (r .good ≡ true → Leaves (now (image .entry)) sheet below line w r (now (marks .entry)) (now (marks .exit))) ⌝ }
+{
+    if image[line] / 8 % 2 == 1 {
+        let t = accept_table(image, sheet, below, submenu_of(image, line), w, &mut *marks);
+        return Stage {
+            good: t.good,
+            at: w.at,
+            lines: t.lines,
+            fields: t.fields,
+        };
+    }
+    w
+}
+
+// The table at a place; `left` levels are left, its own among them.
+fn accept_table(
+    image: &[u8],
+    sheet: usize,
+    left: usize,
+    table: usize,
+    w: Stage,
+    marks: &mut [u64],
+) -> Stage
+    requires { ⌜ sheet ≤ 64 * length (now marks) ⌝ }
+    ensures { λ r. ⌜ (r .good ≡ true → Reaches sheet (onTable (now (image .entry)) sheet mostFields left table) w r (now (marks .entry)) (now (marks .exit))) ⌝ }
+{
+    let title = read_title(image, table);
+    if title.refusal != 0 {
+        return Stage::doubt();
+    }
+    if left == 0 {
+        return Stage::doubt();
+    }
+    let below = left - 1;
+    let mut v = w.titled(title.end);
+    let mut n = 0;
+    let mut before = 0;
+    let mut p = title.line;
+    while n < Image::MAX_TABLE_LINES {
+        let end = accept_head(image, n, before, p, v);
+        if end == 0 {
+            return Stage::doubt();
+        }
+        let head = Spot::headed(v, n, p, end);
+        let s = pass_lines(image, sheet, head, &mut *marks);
+        if !s.stage.good {
+            return s.stage;
+        }
+        let line = s.line;
+        v = accept_submenu(image, sheet, below, line, s.stage, &mut *marks);
+        if !v.good {
+            return v;
+        }
+        if image[line] / 2 % 2 == 1 {
+            return v;
+        }
+        before = line;
+        p = next_of(image, line);
+        n = s.n + 1;
+    }
+    Stage::doubt()
+}
+
+// Whether nothing gives the walk doubt.
+fn is_accepted(image: &[u8], sheet: usize) -> bool
+    ensures { λ r. ⌜ (r ≡ true → refusalOf (now (image .entry)) sheet ≡ 0) ⌝ }
+{
+    let code = prolog_code(image);
+    if code != 0 {
+        return false;
+    }
+    if Image::MAX_SHEET < sheet {
+        return false;
+    }
+    let mut marks = [0u64; WORDS];
+    let start = Stage {
+        good: true,
+        at: 0,
+        lines: 0,
+        fields: 0,
+    };
+    let end = accept_table(
+        image,
+        sheet,
+        Image::MAX_DEPTH,
+        Image::PROLOG,
+        start,
+        &mut marks,
+    );
+    end.good
+}
+
+// The refusal number of an image for a sheet of so many bytes, 0 for none.
+pub fn refusal_of(image: &[u8], sheet: usize) -> u8
+    ensures { λ r. ⌜ r ≡ refusalOf (now (image .entry)) sheet ⌝ }
+{
+    let accepted = is_accepted(image, sheet);
+    if accepted {
+        return 0;
+    }
+    let c = check(image, sheet);
+    c.walk.refusal
+}

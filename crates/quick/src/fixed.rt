@@ -1,0 +1,342 @@
+// Fields of the quick walk, but options: integers, counters, times, dates and triggers, which have no texts, are told here by a few tests on their bytes.
+ghost use mathlib.Core.Path.{_≡_};
+ghost use mathlib.Core.Bool.{true};
+ghost use mathlib.Core.List.{[], _∷_};
+ghost use Prim.Native.Nat.{_+_, _*_, _%_, _<_, _≤_};
+ghost use lib.ListN.{length};
+ghost use Rattle.laws.specs.Bytes.{byteAt, wordAt};
+ghost use Rattle.field.specs.Formats.{formatOf, limitOf, numeralOf};
+ghost use Rattle.field.specs.Cells.{biased, spans, inRange};
+ghost use Rattle.field.specs.Settings.{stepFits, widthFits};
+ghost use Rattle.field.specs.declared.kind.Kind.the-variants.{Counter};
+ghost use Rattle.cmf.specs.Layouts.{Component, integerAt, counterSettingsAt, counterAt, timeLongAt, timeShortAt, dateLongAt, dateShortAt, triggerAt};
+ghost use Rattle.quick.specs.Accept.{Held, Passes};
+use crate::claim::claim;
+use crate::heads::word_in;
+use crate::stage::Stage;
+use crate::texts::switch_end;
+use cmf::image::Image;
+use field::settings::counted_cells;
+
+// How far the range of an integer's code goes above 0.
+const ABOVE: [usize; 11] = [99, 255, 255, 99, 127, 999, 9999, 65535, 65535, 999, 9999];
+
+// And how far below it.
+const BELOW: [usize; 11] = [0, 0, 0, 99, 128, 0, 0, 0, 0, 999, 9999];
+
+// Whether a number is in the range of an integer's code, whose bytes hold as many numbers as the limit.
+fn integer_fits(code: usize, limit: usize, x: usize) -> bool
+    requires { ⌜ (code ≤ 0x0a) × ((limit ≡ limitOf (formatOf code)) × (x < limit)) ⌝ }
+    ensures { λ r. ⌜ (r ≡ true → spans (numeralOf (formatOf code)) x ≡ true) ⌝ }
+{
+    if x <= ABOVE[code] {
+        return true;
+    }
+    limit <= x + BELOW[code]
+}
+
+// Where the integer of one byte at a place ends; 0 in doubt.
+fn byte_end(image: &[u8], at: usize, code: usize) -> usize
+    requires { ⌜ (at < length (now image)) × ((byteAt (now image) at % 32 ≡ code) × (code ≤ 0x04)) ⌝ }
+    ensures { λ r. ⌜ (0 < r → (at + 6 ≤ length (now (image .entry))) × Component (now (image .entry)) at r (integerAt (now (image .entry)) at ∷ [])) ⌝ }
+{
+    let end = at + 7;
+    if image.len() < end {
+        return 0;
+    }
+    let fits = integer_fits(code, 256, image[at + 6] as usize);
+    if fits {
+        return end;
+    }
+    0
+}
+
+// Where the integer of two bytes at a place ends; 0 in doubt.
+fn word_end(image: &[u8], at: usize, code: usize) -> usize
+    requires { ⌜ (at < length (now image)) × ((byteAt (now image) at % 32 ≡ code) × ((0x04 < code) × (code ≤ 0x0a))) ⌝ }
+    ensures { λ r. ⌜ (0 < r → (at + 6 ≤ length (now (image .entry))) × Component (now (image .entry)) at r (integerAt (now (image .entry)) at ∷ [])) ⌝ }
+{
+    let end = at + 8;
+    if image.len() < end {
+        return 0;
+    }
+    let fits = integer_fits(code, 65536, word_in(image, at + 6));
+    if fits {
+        return end;
+    }
+    0
+}
+
+// The signed number at a place, with 32,768 added.
+fn biased_in(image: &[u8], at: usize) -> usize
+    requires { ⌜ at + 1 < length (now image) ⌝ }
+    ensures { λ r. ⌜ (r ≡ biased (wordAt (now (image .entry)) at)) × (r < 65536) ⌝ }
+{
+    (word_in(image, at) + 32768) % 65536
+}
+
+// Whether the default of the counter at a place is in its range.
+fn counter_in_range(image: &[u8], at: usize) -> bool
+    requires { ⌜ at + 15 ≤ length (now image) ⌝ }
+    ensures { λ r. ⌜ r ≡ inRange (Counter (counterSettingsAt (now (image .entry)) at)) (wordAt (now (image .entry)) (at + 12)) ⌝ }
+{
+    let x = biased_in(image, at + 12);
+    if biased_in(image, at + 6) <= x {
+        return x <= biased_in(image, at + 8);
+    }
+    false
+}
+
+// Whether the step of the counter at a place is at least 1, as a signed number.
+fn step_fits(image: &[u8], at: usize) -> bool
+    requires { ⌜ at + 15 ≤ length (now image) ⌝ }
+    ensures { λ r. ⌜ r ≡ stepFits (counterSettingsAt (now (image .entry)) at) ⌝ }
+{
+    let step = word_in(image, at + 10);
+    if 1 <= step {
+        return step < 32768;
+    }
+    false
+}
+
+// Whether the width of the counter at a place is enough for min and for max.
+fn width_fits(image: &[u8], at: usize) -> bool
+    requires { ⌜ at + 15 ≤ length (now image) ⌝ }
+    ensures { λ r. ⌜ r ≡ widthFits (counterSettingsAt (now (image .entry)) at) ⌝ }
+{
+    let width = image[at + 14];
+    let low = counted_cells(biased_in(image, at + 6) as u16);
+    let high = counted_cells(biased_in(image, at + 8) as u16);
+    if low <= width {
+        return high <= width;
+    }
+    false
+}
+
+// Where the counter at a place ends; 0 in doubt.
+fn counter_end(image: &[u8], at: usize) -> usize
+    requires { ⌜ (at < length (now image)) × (byteAt (now image) at % 32 ≡ 0x0d) ⌝ }
+    ensures { λ r. ⌜ (0 < r → (at + 6 ≤ length (now (image .entry))) × Component (now (image .entry)) at r (counterAt (now (image .entry)) at ∷ [])) ⌝ }
+{
+    let end = at + 15;
+    if image.len() < end {
+        return 0;
+    }
+    let ranged = counter_in_range(image, at);
+    if !ranged {
+        return 0;
+    }
+    let stepped = step_fits(image, at);
+    if !stepped {
+        return 0;
+    }
+    let shown = width_fits(image, at);
+    if shown {
+        return end;
+    }
+    0
+}
+
+// Whether hours and minutes of the time at a place are in range.
+fn time_fits(image: &[u8], at: usize) -> bool
+    requires { ⌜ at + 8 ≤ length (now image) ⌝ }
+    ensures { λ r. ⌜ (r ≡ true → (byteAt (now (image .entry)) (at + 6) ≤ 23) × (byteAt (now (image .entry)) (at + 7) ≤ 59)) ⌝ }
+{
+    if 23 < image[at + 6] {
+        return false;
+    }
+    image[at + 7] <= 59
+}
+
+// Where the time with seconds at a place ends; 0 in doubt.
+fn time_long_end(image: &[u8], at: usize) -> usize
+    requires { ⌜ (at < length (now image)) × (byteAt (now image) at % 32 ≡ 0x0f) ⌝ }
+    ensures { λ r. ⌜ (0 < r → (at + 6 ≤ length (now (image .entry))) × Component (now (image .entry)) at r (timeLongAt (now (image .entry)) at ∷ [])) ⌝ }
+{
+    let end = at + 9;
+    if image.len() < end {
+        return 0;
+    }
+    if 59 < image[at + 8] {
+        return 0;
+    }
+    let fits = time_fits(image, at);
+    if fits {
+        return end;
+    }
+    0
+}
+
+// Where the time without seconds at a place ends; 0 in doubt.
+fn time_short_end(image: &[u8], at: usize) -> usize
+    requires { ⌜ (at < length (now image)) × (byteAt (now image) at % 32 ≡ 0x10) ⌝ }
+    ensures { λ r. ⌜ (0 < r → (at + 6 ≤ length (now (image .entry))) × Component (now (image .entry)) at r (timeShortAt (now (image .entry)) at ∷ [])) ⌝ }
+{
+    let end = at + 8;
+    if image.len() < end {
+        return 0;
+    }
+    let fits = time_fits(image, at);
+    if fits {
+        return end;
+    }
+    0
+}
+
+// Whether day and month of the date at a place are in range.
+fn date_fits(image: &[u8], at: usize) -> bool
+    requires { ⌜ at + 8 ≤ length (now image) ⌝ }
+    ensures { λ r. ⌜ (r ≡ true → ((1 ≤ byteAt (now (image .entry)) (at + 6)) × (byteAt (now (image .entry)) (at + 6) ≤ 31)) × ((1 ≤ byteAt (now (image .entry)) (at + 7)) × (byteAt (now (image .entry)) (at + 7) ≤ 12))) ⌝ }
+{
+    let day = image[at + 6];
+    if day < 1 {
+        return false;
+    }
+    if 31 < day {
+        return false;
+    }
+    let month = image[at + 7];
+    if month < 1 {
+        return false;
+    }
+    month <= 12
+}
+
+// Where the date with a year of two bytes at a place ends; 0 in doubt.
+fn date_long_end(image: &[u8], at: usize) -> usize
+    requires { ⌜ (at < length (now image)) × (byteAt (now image) at % 32 ≡ 0x11) ⌝ }
+    ensures { λ r. ⌜ (0 < r → (at + 6 ≤ length (now (image .entry))) × Component (now (image .entry)) at r (dateLongAt (now (image .entry)) at ∷ [])) ⌝ }
+{
+    let end = at + 10;
+    if image.len() < end {
+        return 0;
+    }
+    if 9999 < word_in(image, at + 8) {
+        return 0;
+    }
+    let fits = date_fits(image, at);
+    if fits {
+        return end;
+    }
+    0
+}
+
+// Where the date with a year of one byte at a place ends; 0 in doubt.
+fn date_short_end(image: &[u8], at: usize) -> usize
+    requires { ⌜ (at < length (now image)) × (byteAt (now image) at % 32 ≡ 0x12) ⌝ }
+    ensures { λ r. ⌜ (0 < r → (at + 6 ≤ length (now (image .entry))) × Component (now (image .entry)) at r (dateShortAt (now (image .entry)) at ∷ [])) ⌝ }
+{
+    let end = at + 9;
+    if image.len() < end {
+        return 0;
+    }
+    if 99 < image[at + 8] {
+        return 0;
+    }
+    let fits = date_fits(image, at);
+    if fits {
+        return end;
+    }
+    0
+}
+
+// Where a field ends in the image, 0 in doubt, and how many bytes it has in the sheet.
+struct Extent {
+    end: usize,
+    size: usize,
+}
+
+// A field, no option, that has bytes in the sheet.
+fn extent_of(image: &[u8], at: usize) -> Extent
+    requires { ⌜ at < length (now image) ⌝ }
+    ensures { λ r. ⌜ (0 < r .end → (at + 6 ≤ length (now (image .entry))) × Held (now (image .entry)) at (r .end) (r .size)) ⌝ }
+{
+    let code = (image[at] % 32) as usize;
+    if code <= 0x04 {
+        return Extent {
+            end: byte_end(image, at, code),
+            size: 1,
+        };
+    }
+    if code <= 0x0a {
+        return Extent {
+            end: word_end(image, at, code),
+            size: 2,
+        };
+    }
+    match code {
+        0x0d => Extent {
+            end: counter_end(image, at),
+            size: 2,
+        },
+        0x0f => Extent {
+            end: time_long_end(image, at),
+            size: 3,
+        },
+        0x10 => Extent {
+            end: time_short_end(image, at),
+            size: 2,
+        },
+        0x11 => Extent {
+            end: date_long_end(image, at),
+            size: 4,
+        },
+        0x12 => Extent {
+            end: date_short_end(image, at),
+            size: 3,
+        },
+        0x13 => Extent {
+            end: switch_end(image, at),
+            size: 4,
+        },
+        _ => Extent { end: 0, size: 0 },
+    }
+}
+
+// Where the trigger at a place ends; 0 in doubt.
+fn trigger_end(image: &[u8], at: usize) -> usize
+    requires { ⌜ (at < length (now image)) × (byteAt (now image) at % 32 ≡ 0x17) ⌝ }
+    ensures { λ r. ⌜ (0 < r → Component (now (image .entry)) at r (triggerAt (now (image .entry)) at ∷ [])) ⌝ }
+{
+    let end = at + 4;
+    if image.len() < end {
+        return 0;
+    }
+    end
+}
+
+// A field, no option, if there may be one more. A trigger has no bytes in the sheet to claim.
+pub(crate) fn accept_field(
+    image: &[u8],
+    sheet: usize,
+    p: usize,
+    w: Stage,
+    marks: &mut [u64],
+) -> Stage
+    requires { ⌜ (p < length (now image)) × (sheet ≤ 64 * length (now marks)) ⌝ }
+    ensures { λ r. ⌜ (r .good ≡ true → Passes (now (image .entry)) sheet p w r (now (marks .entry)) (now (marks .exit))) ⌝ }
+{
+    if Image::MAX_FIELDS <= w.fields {
+        return Stage::doubt();
+    }
+    if image[p] % 32 == 0x17 {
+        let end = trigger_end(image, p);
+        return Stage {
+            good: 0 < end,
+            at: end,
+            lines: w.lines,
+            fields: w.fields + 1,
+        };
+    }
+    let e = extent_of(image, p);
+    if e.end == 0 {
+        return Stage::doubt();
+    }
+    let good = claim(&mut *marks, sheet, word_in(image, p + 4), e.size);
+    Stage {
+        good,
+        at: e.end,
+        lines: w.lines,
+        fields: w.fields + 1,
+    }
+}

@@ -1,0 +1,141 @@
+// The quick walk's own loop: constant strings, options and plain heads, one behind the other, with no call for anything else in it.
+ghost use mathlib.Core.Path.{_≡_};
+ghost use mathlib.Core.Bool.{true, false};
+ghost use Prim.Native.Nat.{_+_, _*_, _%_, _<_, _≤_};
+ghost use lib.ListN.{length};
+ghost use Rattle.laws.specs.Bytes.{byteAt};
+ghost use Rattle.cmf.specs.Readers.{evenFrom};
+ghost use Rattle.cmf.specs.Layouts.{Aligned};
+ghost use Rattle.cmf.specs.Grammar.{passwordAt};
+ghost use Rattle.quick.specs.Accept.{Passes, Moves, Next};
+use crate::claim::claim_byte;
+use crate::heads::next_of;
+use crate::heads::plain_end;
+use crate::heads::word_in;
+use crate::spot::Spot;
+use crate::stage::Stage;
+use crate::texts::option_end;
+use cmf::image::Image;
+
+// The option at p with its byte in the sheet; in doubt no byte is marked.
+fn take_option(image: &[u8], sheet: usize, p: usize, w: Stage, marks: &mut [u64]) -> Stage
+    requires { ⌜ (p + 10 < length (now image)) × (byteAt (now image) p % 32 ≡ 0x14) × (sheet ≤ 64 * length (now marks)) ⌝ }
+    ensures { λ r. ⌜ (r .good ≡ true → Passes (now (image .entry)) sheet p w r (now (marks .entry)) (now (marks .exit))) × (r .good ≡ false → now (marks .exit) ≡ now (marks .entry)) ⌝ }
+{
+    if Image::MAX_FIELDS <= w.fields {
+        return Stage::doubt();
+    }
+    let end = option_end(image, p);
+    if end == 0 {
+        return Stage::doubt();
+    }
+    let good = claim_byte(&mut *marks, sheet, word_in(image, p + 4));
+    Stage {
+        good,
+        at: end,
+        lines: w.lines,
+        fields: w.fields + 1,
+    }
+}
+
+// The component at p with its tag, if it is a constant string or an option without fault; no other is taken.
+fn take_usual(image: &[u8], sheet: usize, p: usize, tag: u8, w: Stage, marks: &mut [u64]) -> Stage
+    requires { ⌜ (p + 10 < length (now image)) × (tag ≡ byteAt (now image) p) × (sheet ≤ 64 * length (now marks)) ⌝ }
+    ensures { λ r. ⌜ (r .good ≡ true → Passes (now (image .entry)) sheet p w r (now (marks .entry)) (now (marks .exit))) × (r .good ≡ false → now (marks .exit) ≡ now (marks .entry)) ⌝ }
+{
+    if tag % 64 == 0x15 {
+        let end = p + 2 + image[p + 1] as usize;
+        return Stage {
+            good: end <= image.len(),
+            at: end,
+            lines: w.lines,
+            fields: w.fields,
+        };
+    }
+    if tag % 32 == 0x14 {
+        return take_option(image, sheet, p, w, &mut *marks);
+    }
+    Stage::doubt()
+}
+
+// Whether what stands at the first even place from `at` on follows it at once or behind a zero byte.
+fn is_padded_to_even(image: &[u8], at: usize) -> bool
+    requires { ⌜ at + 1 < length (now image) ⌝ }
+    ensures { λ r. ⌜ (r ≡ true → Aligned (now (image .entry)) 0 at (evenFrom at)) ⌝ }
+{
+    if at % 2 == 0 {
+        return true;
+    }
+    image[at] == 0
+}
+
+// Behind the line at a place, which is done: the line that it leads to, where its head is a plain one; where not, the spot at the line's end.
+fn next_usual(image: &[u8], n: usize, line: usize, w: Stage) -> Spot
+    requires { ⌜ passwordAt (now image) line ≤ length (now image) ⌝ }
+    ensures { λ r. ⌜ (r .done ≡ false → Next (now (image .entry)) n line w r) × (r .done ≡ true → r ≡ record { stage = w; n = n; line = line; done = true }) ⌝ }
+{
+    let behind = Spot {
+        stage: w,
+        n,
+        line,
+        done: true,
+    };
+    if Image::MAX_TABLE_LINES - 1 <= n {
+        return behind;
+    }
+    if Image::MAX_LINES <= w.lines {
+        return behind;
+    }
+    if image[line] / 2 % 2 == 1 {
+        return behind;
+    }
+    if image[line] / 8 % 2 == 1 {
+        return behind;
+    }
+    let next = next_of(image, line);
+    let end = plain_end(image, line, next, w.at);
+    if end == 0 {
+        return behind;
+    }
+    Spot {
+        stage: Stage {
+            good: true,
+            at: end,
+            lines: w.lines + 1,
+            fields: w.fields,
+        },
+        n: n + 1,
+        line: next,
+        done: false,
+    }
+}
+
+// From a spot within a line as far as all is usual and eleven bytes of a component, the fewest that an option has, and one before them are in the image.
+pub(crate) fn run(image: &[u8], sheet: usize, start: Spot, marks: &mut [u64]) -> Spot
+    requires { ⌜ (start .done ≡ false) × (passwordAt (now image) (start .line) ≤ length (now image)) × (start .stage .at ≤ length (now image)) × (sheet ≤ 64 * length (now marks)) ⌝ }
+    ensures { λ r. ⌜ Moves (now (image .entry)) sheet start r (now (marks .entry)) (now (marks .exit)) ⌝ }
+{
+    let mut s = start;
+    while s.stage.at + 11 < image.len() {
+        let at = s.stage.at;
+        let zero = is_padded_to_even(image, at);
+        if !zero {
+            return s;
+        }
+        let p = at + at % 2;
+        let tag = image[p];
+        let w = take_usual(image, sheet, p, tag, s.stage, &mut *marks);
+        if !w.good {
+            return s;
+        }
+        if tag / 128 % 2 == 1 {
+            s = next_usual(image, s.n, s.line, w);
+            if s.done {
+                return s;
+            }
+        } else {
+            s.stage = w;
+        }
+    }
+    s
+}

@@ -1,4 +1,0 @@
-pub mod Check
-pub mod Index
-pub mod Faults
-pub mod Accept
