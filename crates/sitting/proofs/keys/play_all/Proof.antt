@@ -3,8 +3,8 @@ use native.Mathlib.Omega.{arith}
 use mathlib.Core.Path.{_≡_}
 use lib.ListN.{length}
 use borrow.Author.Needs.{needs}
-use Rattle.sitting.proofs.press.play_all.Statement.{statement}
-use Rattle.sitting.proofs.press.play_all.Tie as tie
+use Rattle.sitting.proofs.keys.play_all.Statement.{statement}
+use Rattle.sitting.proofs.keys.play_all.Tie as tie
 
 abbrev Inv-loop : tie.InvT-loop
 Inv-loop image sheet₀ fd session₀ ended₀ left₀ sheet session ended left = length sheet ≡ length sheet₀
