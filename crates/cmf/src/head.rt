@@ -4,7 +4,8 @@ ghost use Prim.Native.Nat.{_+_, _<_, _≤_};
 ghost use mathlib.Core.Bool.{true};
 ghost use lib.ListN.{length};
 ghost use Rattle.laws.specs.Choice.{if_then_else_};
-ghost use Rattle.cmf.specs.Readers.{textsFrom, passwordFits, headRefused, passwords, optionsEnd, headRead, headBy, headAt};
+ghost use Rattle.cmf.specs.Readers.{textsFrom, passwordFits, headRefused, passwords};
+ghost use Rattle.cmf.specs.Readers.{backPlace, submenuPlace, optionsEnd, headRead, headBy, headAt};
 use crate::image::Image;
 use crate::image::word_in;
 use crate::text::password_fits;
@@ -56,6 +57,29 @@ impl Head {
     }
 }
 
+// Where a line's options are, counted from its tag: the pointer back, the submenu's offset, and where the options end.
+pub struct Options {
+    pub back: usize,
+    pub submenu: usize,
+    pub end: usize,
+}
+
+impl Options {
+    pub fn of_tag(tag: u8) -> Self
+        ensures { λ r. ⌜ (r .back ≡ backPlace 0 tag)
+            × ((r .submenu ≡ submenuPlace 0 tag) × (r .end ≡ optionsEnd 0 tag)) ⌝ }
+    {
+        let t = tag as usize;
+        let back = 1 + 2 * (1 - t / 2 % 2);
+        let submenu = back + 2 * (1 - t % 2) + 2 * (t / 4 % 2);
+        Options {
+            back,
+            submenu,
+            end: submenu + 2 * (t / 8 % 2),
+        }
+    }
+}
+
 fn is_good(image: &[u8], protected: bool, at: usize) -> bool
     ensures { λ r. ⌜ r ≡ if protected then passwordFits (now (image .entry)) at else true ⌝ }
 {
@@ -71,14 +95,13 @@ fn head_read(image: &[u8], p: usize, tag: u8, end: usize) -> Head
     ensures { λ r. ⌜ r ≡ headRead (now (image .entry)) p tag end ⌝ }
 {
     let t = tag as usize;
-    let back = p + 1 + 2 * (1 - t / 2 % 2);
-    let submenu = back + 2 * (1 - t % 2) + 2 * (t / 4 % 2);
-    let password = submenu + 2 * (t / 8 % 2);
+    let options = Options::of_tag(tag);
+    let password = p + options.end;
     let protected = (t / 8 % 2) * (t / 16 % 2) == 1;
     let good = is_good(image, protected, password);
     let a = word_at(image, p + 1) as usize;
-    let b = word_at(image, back) as usize;
-    let d = word_at(image, submenu) as usize;
+    let b = word_at(image, p + options.back) as usize;
+    let d = word_at(image, p + options.submenu) as usize;
     Head {
         refusal: 0,
         good,
@@ -101,7 +124,7 @@ fn head_by(image: &[u8], p: usize, tag: u8) -> Head
     ensures { λ r. ⌜ r ≡ headBy (now (image .entry)) p tag (textsFrom (now (image .entry)) (passwords tag) (optionsEnd p tag) 0) ⌝ }
 {
     let t = tag as usize;
-    let options = p + 1 + 2 * (1 - t / 2 % 2) + 2 * (1 - t % 2) + 2 * (t / 4 % 2) + 2 * (t / 8 % 2);
+    let options = p + Options::of_tag(tag).end;
     let run = read_texts(image, (t / 8 % 2) * (t / 16 % 2), options);
     if options <= image.len() {
         if run.fits {
@@ -135,9 +158,8 @@ fn short_head(image: &[u8], p: usize, tag: u8) -> Head
     ensures { λ r. ⌜ r ≡ headRead (now (image .entry)) p tag (optionsEnd p tag) ⌝ }
 {
     let t = tag as usize;
-    let back = p + 1 + 2 * (1 - t / 2 % 2);
-    let submenu = back + 2 * (1 - t % 2) + 2 * (t / 4 % 2);
-    let end = submenu + 2 * (t / 8 % 2);
+    let options = Options::of_tag(tag);
+    let end = p + options.end;
     Head {
         refusal: 0,
         good: true,
@@ -145,9 +167,9 @@ fn short_head(image: &[u8], p: usize, tag: u8) -> Head
         last: t / 2 % 2 == 1,
         submenu: t / 8 % 2 == 1,
         protected: false,
-        back: word_in(image, back),
+        back: word_in(image, p + options.back),
         next: p + word_in(image, p + 1),
-        table: Image::PROLOG + word_in(image, submenu),
+        table: Image::PROLOG + word_in(image, p + options.submenu),
         password: end,
         end,
         component: end + end % 2,
