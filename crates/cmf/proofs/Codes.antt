@@ -10,6 +10,7 @@ use borrow.Author.Tests.{ltb-false, leb-true, eqb-true, eqb-false, eq-eqb, ne-eq
 use Rattle.laws.specs.Choice.{if_then_else_, _and_, _=?_, _<?_, _≤?_}
 use Rattle.laws.specs.Bytes.{byteAt}
 use Rattle.laws.proofs.Cases.{if-ind, if-true, if-lt, if-le, if-ne, by-test, and-i, and-l, and-r}
+use Rattle.laws.proofs.Tables.{passes}
 use Rattle.field.specs.Formats.{formatOf}
 use Rattle.field.specs.Table.{profileOf, cellOf}
 use Rattle.field.specs.Cells.{inRange, inSpan, legal, legalTo, cellsOf, within}
@@ -23,17 +24,6 @@ use Rattle.cmf.specs.declared.text.Run.{Run}
 use Rattle.cmf.proofs.Agreement.{ComponentIs, ComponentReads}
 use Rattle.cmf.proofs.Runs.{none-ends, text-texts, texts-text}
 use Rattle.cmf.proofs.Parts.{Laid, laid-after, laid-inside, laid-read, read-laid}
-
--- a test of each number below a bound, by computing it
-abbrev pub passAll : (ℕ → Bool) → ℕ → Bool
-passAll test zero = true
-passAll test (suc n) = test n and passAll test n
-
--- so each of them passes it
-pub passes : (test : ℕ → Bool) (n : ℕ) → passAll test n ≡ true → (c : ℕ) → c < n → test c ≡ true
-passes test zero e c h = absurd (omega arith)
-passes test (suc n) e c h =
-    by-test (c =? n) (λ q. rw (eqb-true c n q) (and-l _ _ e)) (λ q. passes test n (and-r (test n) _ e) c (omega (arith, eqb-false c n q)))
 
 -- 7.5.1 to 7.5.11: an integer's bytes are its default's and six more
 pub integer-bytes : (c e : ℕ) → c ≤ 0x0a → fixedBytes c e ≡ 6 + profileOf (Integer (formatOf c)) .bytes

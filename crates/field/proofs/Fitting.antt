@@ -45,10 +45,6 @@ pub spans-above : (n : Numeral) (x : ℕ) → x ≤ n .above → spans n x ≡ t
 unfolding spans
 spans-above n x h = if-le x (n .above) _ _ h
 
-pub spans-below : (n : Numeral) (x : ℕ) → n .limit - n .below ≤ x → x < n .limit → spans n x ≡ true
-unfolding spans if_then_else_
-spans-below n x l h = let e = and-i (le-leb (n .limit - n .below) x l) (lt-ltb x (n .limit) h) in by-test (x ≤? n .above) (λ t. rw t) (λ t. rw t e)
-
 pub integer-fits : (f : Format) (v : Value) → spans (numeralOf f) (numberOf v) ≡ true → settingsFit (Integer f) v ≡ true
 unfolding settingsFit goodSettings _and_
 integer-fits f v h = range-of-integer f (numberOf v) ∙ h

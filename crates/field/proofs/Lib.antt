@@ -8,3 +8,4 @@ pub mod Shown
 pub mod Apart
 pub mod Counted
 pub mod Fitting
+pub mod CodeRanges

@@ -39,6 +39,21 @@ pub enum Kind {
 impl Kind {
     // The bits that a switch's four bytes hold.
     pub const MAX_BITS: u8 = 32;
+
+    // The last of each part of a time or date; parts count from 0, but day and month from 1.
+    pub const MAX_HOUR: u8 = 23;
+
+    pub const MAX_MINUTE: u8 = 59;
+
+    pub const MAX_SECOND: u8 = 59;
+
+    pub const MAX_DAY: u8 = 31;
+
+    pub const MAX_MONTH: u8 = 12;
+
+    pub const MAX_YEAR: u16 = 9999;
+
+    pub const MAX_SHORT_YEAR: u8 = 99;
 }
 
 impl Format {

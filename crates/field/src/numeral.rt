@@ -4,7 +4,8 @@ ghost use Prim.Native.Nat.{_+_, _-_, _^_, _≤_, _<_, min};
 ghost use lib.ListN.{take, drop};
 ghost use Rattle.laws.specs.Digits.{digitsOf, numberFrom};
 ghost use Rattle.laws.specs.Overwrite.{over};
-ghost use Rattle.field.specs.Formats.{signsOf, digitsIn, baseOf, limitOf, halfOf, topOf, numeralOf, bitsIn, bitsOf};
+ghost use Rattle.field.specs.Formats.{formatOf, signsOf, digitsIn, baseOf, limitOf, halfOf, topOf};
+ghost use Rattle.field.specs.Formats.{numeralOf, bitsIn, bitsOf};
 ghost use Rattle.field.specs.Cells.{spans, distance, signOf, inDigits, shownBy, minus, storable, ofDigits, workOf};
 ghost use Rattle.field.specs.Sound.{Sound};
 use crate::kind::Format;
@@ -76,6 +77,44 @@ impl Format {
             limit,
         }
     }
+}
+
+// The ranges that `numeral` gives, by an integer's code: how far each goes above 0, and how far below it.
+const ABOVE: [usize; 11] = [99, 255, 255, 99, 127, 999, 9999, 65535, 65535, 999, 9999];
+
+const BELOW: [usize; 11] = [0, 0, 0, 99, 128, 0, 0, 0, 0, 999, 9999];
+
+// How many numbers the bytes of an integer's code hold.
+fn code_limit(code: usize) -> usize
+    requires { ⌜ code ≤ 0x0a ⌝ }
+    ensures { λ r. ⌜ r ≡ limitOf (formatOf code) ⌝ }
+{
+    if code < 5 { 256 } else { 65536 }
+}
+
+fn code_spans(code: usize, x: usize) -> bool
+    requires { ⌜ code ≤ 0x0a ⌝ }
+    ensures { λ r. ⌜ r ≡ spans (numeralOf (formatOf code)) x ⌝ }
+{
+    if x <= ABOVE[code] {
+        return true;
+    }
+    let limit = code_limit(code);
+    if limit - BELOW[code] <= x {
+        return x < limit;
+    }
+    false
+}
+
+// Whether a number is in the range of an integer's code, for readers that make no record of a field. A code past the
+// last reads as the last.
+pub fn is_in_code(code: usize, x: usize) -> bool
+    ensures { λ r. ⌜ r ≡ spans (numeralOf (formatOf code)) x ⌝ }
+{
+    if code <= 0x0a {
+        return code_spans(code, x);
+    }
+    code_spans(0x0a, x)
 }
 
 // The bits of a switch.

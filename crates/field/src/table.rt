@@ -166,14 +166,14 @@ impl Cell {
     {
         if i == 0 {
             if long {
-                return Cell::ends(0, 9999, 1);
+                return Cell::ends(0, Kind::MAX_YEAR as u32, 1);
             }
-            return Cell::ends(0, 99, 1);
+            return Cell::ends(0, Kind::MAX_SHORT_YEAR as u32, 1);
         }
         if i == 1 {
-            return Cell::ends(1, 12, 1);
+            return Cell::ends(1, Kind::MAX_MONTH as u32, 1);
         }
-        Cell::ends(1, 31, 1)
+        Cell::ends(1, Kind::MAX_DAY as u32, 1)
     }
 }
 
@@ -191,9 +191,9 @@ pub fn cell_of(kind: Kind, i: usize) -> Cell
         Kind::Counter(s) => Cell::ends(s.min as u32, s.max as u32, s.step as u32),
         Kind::Time(_) => {
             if i == 0 {
-                return Cell::ends(0, 23, 1);
+                return Cell::ends(0, Kind::MAX_HOUR as u32, 1);
             }
-            Cell::ends(0, 59, 1)
+            Cell::ends(0, Kind::MAX_MINUTE as u32, 1)
         }
         Kind::Date(long) => Cell::of_date(long, i),
         Kind::Switch(_) => Cell::flag(),

@@ -4,3 +4,4 @@ pub mod Rooms
 pub mod Frame
 pub mod Overwriting
 pub mod Numerals
+pub mod Tables

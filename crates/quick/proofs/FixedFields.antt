@@ -18,47 +18,15 @@ use Rattle.field.specs.Values.{valueAt}
 use Rattle.field.specs.declared.kind.Kind.the-variants.{Integer, Counter}
 use Rattle.field.specs.declared.record.Field.{Field}
 use Rattle.field.proofs.Bounds.{limit-le, limit-bytes}
-use Rattle.field.proofs.Fitting.{two-bytes, three-bytes, four-bytes, spans-above, spans-below, integer-fits, counter-fits, time-fits, date-fits}
+use Rattle.field.proofs.Fitting.{two-bytes, three-bytes, four-bytes, integer-fits, counter-fits, time-fits, date-fits}
 use Rattle.cmf.specs.Limits.{mostFields}
 use Rattle.cmf.specs.Layouts.{Component, integerAt, counterSettingsAt, counterAt, timeLongAt, timeShortAt, dateLongAt, dateShortAt, triggerAt}
-use Rattle.cmf.proofs.Codes.{passAll, passes}
 use Rattle.cmf.proofs.Usual.{one-byte, short-bytes, long-bytes}
 use Rattle.quick.specs.declared.stage.Stage.{Stage}
 use Rattle.quick.specs.Accept.{Claimed, Claims, Held, Passes}
 use Rattle.quick.proofs.Marks.{claimed-none}
 
 -- ---- integers
-
--- a table that has the right number for each code, by computing it
-abbrev pub RightAt : (ℕ → ℕ) → List ℕ → Type 0
-RightAt f table = passAll (λ (c : ℕ). getD table c 0 =? f c) 11 ≡ true
-
-right-at : (f : ℕ → ℕ) (table : List ℕ) → RightAt f table → (c : ℕ) → c ≤ 0x0a → getD table c 0 ≡ f c
-right-at f table e c h = eqb-true (getD table c 0) (f c) (passes (λ (c : ℕ). getD table c 0 =? f c) 11 e c (omega arith))
-
--- how far a code's range goes above 0, and how far below it
-abbrev pub above : ℕ → ℕ
-above c = numeralOf (formatOf c) .above
-
-abbrev pub below : ℕ → ℕ
-below c = numeralOf (formatOf c) .below
-
-pub above-fits : (table : List ℕ) (c x : ℕ) → x ≤ getD table c 0 → c ≤ 0x0a → RightAt above table → spans (numeralOf (formatOf c)) x ≡ true
-above-fits table c x h k r = spans-above (numeralOf (formatOf c)) x (omega (arith, right-at above table r c k))
-
-module _ (table : List ℕ) (c limit x : ℕ) (k : c ≤ 0x0a) (e : limit ≡ limitOf (formatOf c)) (l : x < limit) (r : RightAt below table) where
-  pub below-small : x + getD table c 0 < 131072
-  below-small = omega (arith, limit-le (formatOf c), right-at below table r c k)
-
-  pub below-fits : limit ≤ x + getD table c 0 → spans (numeralOf (formatOf c)) x ≡ true
-  below-fits h = spans-below (numeralOf (formatOf c)) x (omega (arith, right-at below table r c k)) (omega arith)
-
--- how many numbers the bytes hold
-pub short-limit : (c : ℕ) → c ≤ 0x04 → limitOf (formatOf c) ≡ 256
-short-limit c h = limit-bytes (formatOf c) ∙ ap (λ (n : ℕ). 256 ^ n) (short-bytes c h)
-
-pub long-limit : (c : ℕ) → 0x04 < c → c ≤ 0x0a → limitOf (formatOf c) ≡ 65536
-long-limit c l h = limit-bytes (formatOf c) ∙ ap (λ (n : ℕ). 256 ^ n) (long-bytes c l h)
 
 module _ (im : List ℕ) (at end : ℕ) (inside : end ≤ length im) where
   pub byte-is :

@@ -136,9 +136,6 @@ module _ (im : List ℕ) where
       (n before p : ℕ) → (n ≡ 0 → ⊥) → (byteAt im p % 2 ≡ 1 → ⊥) → before ≤ p → wordAt im (previousAt im p) ≡ p - before → Linked im n before p
   linked-later n before p z e b w = record { first = λ f. absurd (z f); later = λ _. omega arith; previous = λ _. omega arith }
 
-  pub options-is : (p : ℕ) → p + 1 + 2 * (1 - byteAt im p / 2 % 2) + 2 * (1 - byteAt im p % 2) + 2 * (byteAt im p / 4 % 2) + 2 * (byteAt im p / 8 % 2) ≡ passwordAt im p
-  options-is p = let z : byteAt im p % 2 ≡ isFirst im p = omega arith in rw z
-
   -- a head without a password, and one with it
   low-tag : (t : ℕ) → t < 16 → bit 4 t ≡ 0
   low-tag t h = omega arith

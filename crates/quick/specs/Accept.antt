@@ -1,5 +1,6 @@
+-- Nobody has to believe this file: the contract of `refusal_of` speaks of the check alone.
 -- What the quick walk knows where it has no doubt: how far the walk of the check would have come, with marks on the sheet's bytes in place of the fields.
-use Prim.Native.Nat.{ℕ, _+_, _-_, _/_, _%_, _^_, _≤_, _<_}
+use Prim.Native.Nat.{ℕ, _+_, _-_, _*_, _/_, _%_, _^_, _≤_, _<_}
 use mathlib.Core.Path.{_≡_}
 use mathlib.Core.Bool.{true, false}
 use mathlib.Core.List.{List, [], _∷_}
@@ -120,6 +121,14 @@ pub record Along (im : List ℕ) (sheet below first : ℕ) (u : Stage) (old : Li
   pub head : Placed im (s .n) before (s .line) from end
   pub within : s .done ≡ false → AmongParts im sheet (headed from end) (s .stage) marks new
   pub through : s .done ≡ true → Reaches sheet (onComponents im sheet mostFields (componentsFrom im (length im + 1) (evenFrom end))) (headed from end) (s .stage) marks new
+
+-- a spot within a line: its components are not all passed, its head and the spot itself are in the image, and there
+-- is a mark for each byte of the sheet
+pub record Within (im : List ℕ) (sheet : ℕ) (s : Spot) (marks : List ℕ) : Type 0 where
+  pub going : s .done ≡ false
+  pub head : passwordAt im (s .line) ≤ length im
+  pub inside : s .stage .at ≤ length im
+  pub marked : sheet ≤ 64 * length marks
 
 -- from one spot to another, in whatever table they are
 pub record Moves (im : List ℕ) (sheet : ℕ) (s r : Spot) (old new : List ℕ) : Type 0 where

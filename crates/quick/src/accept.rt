@@ -6,7 +6,7 @@ ghost use lib.ListN.{length};
 ghost use Rattle.cmf.specs.Limits.{mostFields};
 ghost use Rattle.cmf.specs.Grammar.{passwordAt};
 ghost use Rattle.acceptance.specs.Check.{onTable, refusalOf};
-ghost use Rattle.quick.specs.Accept.{Reaches, Moves, Leaves};
+ghost use Rattle.quick.specs.Accept.{Reaches, Within, Moves, Leaves};
 use crate::claim::WORDS;
 use crate::components::accept_component;
 use crate::heads::accept_head;
@@ -34,7 +34,7 @@ fn doubtful(s: Spot) -> Spot
 
 // One component more, of any kind but an option: one that the loop has left is in doubt. It is at fault, or it has one empty item and ends the image.
 fn take_other(image: &[u8], sheet: usize, s: Spot, marks: &mut [u64]) -> Spot
-    requires { ⌜ (s .done ≡ false) × (passwordAt (now image) (s .line) ≤ length (now image)) × (s .stage .at ≤ length (now image)) × (sheet ≤ 64 * length (now marks)) ⌝ }
+    requires { ⌜ Within (now image) sheet s (now marks) ⌝ }
     ensures { λ r. ⌜ (r .stage .good ≡ true → Moves (now (image .entry)) sheet s r (now (marks .entry)) (now (marks .exit)) × (s .stage .at < r .stage .at)) ⌝ }
 {
     let at = s.stage.at;
@@ -53,7 +53,7 @@ fn take_other(image: &[u8], sheet: usize, s: Spot, marks: &mut [u64]) -> Spot
 
 // From a spot within a line to the end of this line, or of a later one of its table.
 fn pass_lines(image: &[u8], sheet: usize, start: Spot, marks: &mut [u64]) -> Spot
-    requires { ⌜ (start .done ≡ false) × (passwordAt (now image) (start .line) ≤ length (now image)) × (start .stage .at ≤ length (now image)) × (sheet ≤ 64 * length (now marks)) ⌝ }
+    requires { ⌜ Within (now image) sheet start (now marks) ⌝ }
     ensures { λ r. ⌜ (r .stage .good ≡ true → (r .done ≡ true) × Moves (now (image .entry)) sheet start r (now (marks .entry)) (now (marks .exit))) ⌝ }
 {
     let mut s = start;

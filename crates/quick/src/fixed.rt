@@ -5,8 +5,7 @@ ghost use mathlib.Core.List.{[], _∷_};
 ghost use Prim.Native.Nat.{_+_, _*_, _%_, _<_, _≤_};
 ghost use lib.ListN.{length};
 ghost use Rattle.laws.specs.Bytes.{byteAt, wordAt};
-ghost use Rattle.field.specs.Formats.{formatOf, limitOf, numeralOf};
-ghost use Rattle.field.specs.Cells.{biased, spans, inRange};
+ghost use Rattle.field.specs.Cells.{biased, inRange};
 ghost use Rattle.field.specs.Settings.{stepFits, widthFits};
 ghost use Rattle.field.specs.declared.kind.Kind.the-variants.{Counter};
 ghost use Rattle.cmf.specs.Layouts.{Component, integerAt, counterSettingsAt, counterAt, timeLongAt, timeShortAt, dateLongAt, dateShortAt, triggerAt};
@@ -16,24 +15,9 @@ use crate::heads::word_in;
 use crate::stage::Stage;
 use crate::texts::switch_end;
 use cmf::image::Image;
+use field::kind::Kind;
+use field::numeral::is_in_code;
 use field::settings::counted_cells;
-
-// How far the range of an integer's code goes above 0.
-const ABOVE: [usize; 11] = [99, 255, 255, 99, 127, 999, 9999, 65535, 65535, 999, 9999];
-
-// And how far below it.
-const BELOW: [usize; 11] = [0, 0, 0, 99, 128, 0, 0, 0, 0, 999, 9999];
-
-// Whether a number is in the range of an integer's code, whose bytes hold as many numbers as the limit.
-fn integer_fits(code: usize, limit: usize, x: usize) -> bool
-    requires { ⌜ (code ≤ 0x0a) × ((limit ≡ limitOf (formatOf code)) × (x < limit)) ⌝ }
-    ensures { λ r. ⌜ (r ≡ true → spans (numeralOf (formatOf code)) x ≡ true) ⌝ }
-{
-    if x <= ABOVE[code] {
-        return true;
-    }
-    limit <= x + BELOW[code]
-}
 
 // Where the integer of one byte at a place ends; 0 in doubt.
 fn byte_end(image: &[u8], at: usize, code: usize) -> usize
@@ -44,7 +28,7 @@ fn byte_end(image: &[u8], at: usize, code: usize) -> usize
     if image.len() < end {
         return 0;
     }
-    let fits = integer_fits(code, 256, image[at + 6] as usize);
+    let fits = is_in_code(code, image[at + 6] as usize);
     if fits {
         return end;
     }
@@ -60,7 +44,7 @@ fn word_end(image: &[u8], at: usize, code: usize) -> usize
     if image.len() < end {
         return 0;
     }
-    let fits = integer_fits(code, 65536, word_in(image, at + 6));
+    let fits = is_in_code(code, word_in(image, at + 6));
     if fits {
         return end;
     }
@@ -142,10 +126,10 @@ fn time_fits(image: &[u8], at: usize) -> bool
     requires { ⌜ at + 8 ≤ length (now image) ⌝ }
     ensures { λ r. ⌜ (r ≡ true → (byteAt (now (image .entry)) (at + 6) ≤ 23) × (byteAt (now (image .entry)) (at + 7) ≤ 59)) ⌝ }
 {
-    if 23 < image[at + 6] {
+    if Kind::MAX_HOUR < image[at + 6] {
         return false;
     }
-    image[at + 7] <= 59
+    image[at + 7] <= Kind::MAX_MINUTE
 }
 
 // Where the time with seconds at a place ends; 0 in doubt.
@@ -157,7 +141,7 @@ fn time_long_end(image: &[u8], at: usize) -> usize
     if image.len() < end {
         return 0;
     }
-    if 59 < image[at + 8] {
+    if Kind::MAX_SECOND < image[at + 8] {
         return 0;
     }
     let fits = time_fits(image, at);
@@ -192,14 +176,14 @@ fn date_fits(image: &[u8], at: usize) -> bool
     if day < 1 {
         return false;
     }
-    if 31 < day {
+    if Kind::MAX_DAY < day {
         return false;
     }
     let month = image[at + 7];
     if month < 1 {
         return false;
     }
-    month <= 12
+    month <= Kind::MAX_MONTH
 }
 
 // Where the date with a year of two bytes at a place ends; 0 in doubt.
@@ -211,7 +195,7 @@ fn date_long_end(image: &[u8], at: usize) -> usize
     if image.len() < end {
         return 0;
     }
-    if 9999 < word_in(image, at + 8) {
+    if (Kind::MAX_YEAR as usize) < word_in(image, at + 8) {
         return 0;
     }
     let fits = date_fits(image, at);
@@ -230,7 +214,7 @@ fn date_short_end(image: &[u8], at: usize) -> usize
     if image.len() < end {
         return 0;
     }
-    if 99 < image[at + 8] {
+    if Kind::MAX_SHORT_YEAR < image[at + 8] {
         return 0;
     }
     let fits = date_fits(image, at);

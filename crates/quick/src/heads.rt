@@ -8,6 +8,7 @@ ghost use Rattle.cmf.specs.Layouts.{Aligned, Text};
 ghost use Rattle.cmf.specs.Grammar.{Digits, Head, isLast, passwordAt, hasSubmenu, nextLine, submenuTable};
 ghost use Rattle.quick.specs.Accept.{Linked, Placed};
 use crate::stage::Stage;
+use cmf::head::Options;
 use cmf::image::Image;
 use cmf::text::password_fits;
 
@@ -66,14 +67,14 @@ fn is_linked(image: &[u8], n: usize, before: usize, p: usize) -> bool
     requires { ⌜ (passwordAt (now image) p ≤ length (now image)) × (before ≤ p) ⌝ }
     ensures { λ r. ⌜ (r ≡ true → Linked (now (image .entry)) n before p) ⌝ }
 {
-    let tag = image[p] as usize;
+    let tag = image[p];
     if n == 0 {
         return tag % 2 == 1;
     }
     if tag % 2 == 1 {
         return false;
     }
-    word_in(image, p + 1 + 2 * (1 - tag / 2 % 2)) == p - before
+    word_in(image, p + Options::of_tag(tag).back) == p - before
 }
 
 // Where the password at a place ends; 0 in doubt.
@@ -99,8 +100,7 @@ fn options_end(image: &[u8], p: usize) -> usize
     requires { ⌜ p < length (now image) ⌝ }
     ensures { λ r. ⌜ (r ≡ passwordAt (now (image .entry)) p) × (r ≤ p + 9) ⌝ }
 {
-    let tag = image[p] as usize;
-    p + 1 + 2 * (1 - tag / 2 % 2) + 2 * (1 - tag % 2) + 2 * (tag / 4 % 2) + 2 * (tag / 8 % 2)
+    p + Options::of_tag(image[p]).end
 }
 
 // Where the head of any line ends, with n lines of its table before it; 0 in doubt.

@@ -7,7 +7,7 @@ ghost use Rattle.laws.specs.Bytes.{byteAt};
 ghost use Rattle.cmf.specs.Readers.{evenFrom};
 ghost use Rattle.cmf.specs.Layouts.{Aligned};
 ghost use Rattle.cmf.specs.Grammar.{passwordAt};
-ghost use Rattle.quick.specs.Accept.{Passes, Moves, Next};
+ghost use Rattle.quick.specs.Accept.{Passes, Within, Moves, Next};
 use crate::claim::claim_byte;
 use crate::heads::next_of;
 use crate::heads::plain_end;
@@ -112,7 +112,7 @@ fn next_usual(image: &[u8], n: usize, line: usize, w: Stage) -> Spot
 
 // From a spot within a line as far as all is usual and eleven bytes of a component, the fewest that an option has, and one before them are in the image.
 pub(crate) fn run(image: &[u8], sheet: usize, start: Spot, marks: &mut [u64]) -> Spot
-    requires { ⌜ (start .done ≡ false) × (passwordAt (now image) (start .line) ≤ length (now image)) × (start .stage .at ≤ length (now image)) × (sheet ≤ 64 * length (now marks)) ⌝ }
+    requires { ⌜ Within (now image) sheet start (now marks) ⌝ }
     ensures { λ r. ⌜ Moves (now (image .entry)) sheet start r (now (marks .entry)) (now (marks .exit)) ⌝ }
 {
     let mut s = start;

@@ -43,12 +43,18 @@ ends-requires c κs = search needs
 enum-told : tie.Need-enum-told
 enum-told c = search needs
 
+cast-ends-4 : tie.Need-cast-ends-4
+cast-ends-4 c = search needs
+
 ends-requires-2 : tie.Need-ends-requires-2
 ends-requires-2 c κs = search needs
 
 returns-2 : tie.Need-returns-2
 unfolding cellOf if_then_else_
 returns-2 c = simp (c .ends2 .ensures, c .before .before .enum-told .given .1, eq-eqb _ _ (c .before .if2 .taken))
+
+cast-ends-5 : tie.Need-cast-ends-5
+cast-ends-5 c = search needs
 
 ends-requires-3 : tie.Need-ends-requires-3
 ends-requires-3 c κs = search needs
@@ -78,8 +84,8 @@ returns-3 c = simp (c .ends4 .ensures, c .before .before .before .kind4 .given .
 sub-ends : tie.Need-sub-ends
 sub-ends c = search needs
 
-cast-ends-4 : tie.Need-cast-ends-4
-cast-ends-4 c = search needs
+cast-ends-6 : tie.Need-cast-ends-6
+cast-ends-6 c = search needs
 
 ends-requires-5 : tie.Need-ends-requires-5
 ends-requires-5 c κs = search needs
@@ -134,8 +140,10 @@ cell-of-spec =
     cast-ends-3
     ends-requires
     enum-told
+    cast-ends-4
     ends-requires-2
     returns-2
+    cast-ends-5
     ends-requires-3
     enum-known-kind-3
     of-date-requires
@@ -145,7 +153,7 @@ cell-of-spec =
     ends-requires-4
     returns-3
     sub-ends
-    cast-ends-4
+    cast-ends-6
     ends-requires-5
     enum-told-3
     ends-requires-6

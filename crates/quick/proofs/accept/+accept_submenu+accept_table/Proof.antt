@@ -394,7 +394,7 @@ accept-table-pass-lines-requires : (t : ℕ) → accept-table-lts.Need-pass-line
   next-of-reads.Asked,
   next-of-reads.Learnt,
 ) (accept-table-at t) accept-table.Post accept-table-Inv-loop accept-table-μ-loop
-accept-table-pass-lines-requires t c κs = rw (c .before .headed .ensures) (refl, c .before .before .before .accept-head .ensures (omega arith) .head .inside, head-fits _ (c .before .before .before .before .before .before .before .before .before .before .before .before .before .args .sheet) (c .before .before .before .accept-head .ensures (omega arith) .head), omega (arith, c .before .before .before .before .before .loop .inv .0 .1, c .before .before .before .before .before .before .before .before .before .before .before .before .before .pre .1))
+accept-table-pass-lines-requires t c κs = rw (c .before .headed .ensures) (record { going = refl; head = c .before .before .before .accept-head .ensures (omega arith) .head .inside; inside = head-fits _ (c .before .before .before .before .before .before .before .before .before .before .before .before .before .args .sheet) (c .before .before .before .accept-head .ensures (omega arith) .head); marked = omega (arith, c .before .before .before .before .before .loop .inv .0 .1, c .before .before .before .before .before .before .before .before .before .before .before .before .before .pre .1) })
 
 accept-table-same-length-2 : (t : ℕ) → accept-table-lts.Need-same-length-2 (
   read-title-reads.Asked,

@@ -19,10 +19,10 @@ abbrev μ-loop : tie.MeasureT-loop
 μ-loop image sheet marks₀ s₀ marks s = length image - s .stage .at
 
 loop-holds : tie.Need-loop-holds Inv-loop μ-loop
-loop-holds c = ((moves-none _ _ _ _ (c .before .before .pre .1) (c .before .before .pre .2), c .before .before .pre .0), refl)
+loop-holds c = ((moves-none _ _ _ _ (c .before .before .pre .head) (c .before .before .pre .inside), c .before .before .pre .going), refl)
 
 run-requires : tie.Need-run-requires Inv-loop μ-loop
-run-requires c κs = (c .before .before .before .loop .inv .0 .1, c .before .before .before .loop .inv .0 .0 .inside, c .before .before .before .loop .inv .0 .0 .fits, omega (arith, c .before .before .before .loop .inv .1, c .before .before .before .before .before .before .pre .3))
+run-requires c κs = record { going = c .before .before .before .loop .inv .0 .1; head = c .before .before .before .loop .inv .0 .0 .inside; inside = c .before .before .before .loop .inv .0 .0 .fits; marked = omega (arith, c .before .before .before .loop .inv .1, c .before .before .before .before .before .before .pre .marked) }
 
 same-length : tie.Need-same-length Inv-loop μ-loop
 same-length c = c .before .before .before .run .kept .1 .1 .1 .0 ∙ c .before .before .before .before .before .before .before .loop .inv .1
@@ -31,7 +31,7 @@ returns : tie.Need-returns Inv-loop μ-loop
 returns c = λ _. (c .if2 .taken, moves-then _ _ (c .before .before .before .before .before .before .before .loop .inv .0 .0) (c .before .before .before .run .ensures))
 
 take-other-requires : tie.Need-take-other-requires Inv-loop μ-loop
-take-other-requires c κs = (c .before .if2 .left, c .before .before .before .before .run .ensures .inside, c .before .before .before .before .run .ensures .fits, omega (arith, c .before .before .before .before .run .kept .1 .1 .1 .0, c .before .before .before .before .before .before .before .before .loop .inv .1, c .before .before .before .before .before .before .before .before .before .before .before .pre .3))
+take-other-requires c κs = record { going = c .before .if2 .left; head = c .before .before .before .before .run .ensures .inside; inside = c .before .before .before .before .run .ensures .fits; marked = omega (arith, c .before .before .before .before .run .kept .1 .1 .1 .0, c .before .before .before .before .before .before .before .before .loop .inv .1, c .before .before .before .before .before .before .before .before .before .before .before .pre .marked) }
 
 same-length-2 : tie.Need-same-length-2 Inv-loop μ-loop
 same-length-2 c = c .before .before .before .before .take-other .kept .1 .1 .1 .0 ∙ c .before .before .before .before .before .before .before .before .before .run .kept .1 .1 .1 .0 ∙ c .before .before .before .before .before .before .before .before .before .before .before .before .before .loop .inv .1

@@ -25,7 +25,7 @@ same-length : tie.Need-same-length
 same-length c = search needs
 
 returns-2 : tie.Need-returns-2
-returns-2 c = λ e. let g = c .before .before .before .accept-component .ensures e in (part-moves _ _ _ (c .before .before .before .before .before .before .before .before .pre .0) (c .before .before .before .before .before .before .before .before .pre .1) (g .0) (g .1) _ (unmarked _) (eqb-true _ _), part-onward _ _ (c .before .before .before .before .before .before .before .before .args .s) (c .before .before .before .before .before .before .before .before .pre .0) (c .before .before .before .before .before .before .before .before .pre .1) (g .0) (g .1))
+returns-2 c = λ e. let g = c .before .before .before .accept-component .ensures e in (part-moves _ _ _ (c .before .before .before .before .before .before .before .before .pre .going) (c .before .before .before .before .before .before .before .before .pre .head) (g .0) (g .1) _ (unmarked _) (eqb-true _ _), part-onward _ _ (c .before .before .before .before .before .before .before .before .args .s) (c .before .before .before .before .before .before .before .before .pre .going) (c .before .before .before .before .before .before .before .before .pre .head) (g .0) (g .1))
 
 pub take-other-spec : {M : Type 1} → statement M
 take-other-spec =

@@ -1,6 +1,6 @@
 -- A number in range is a default that fits.
-use mathlib.Core.Path.{refl}
-use Rattle.quick.proofs.FixedFields.{short-limit, byte-is}
+use mathlib.Core.Path.{sym, _∙_, refl}
+use Rattle.quick.proofs.FixedFields.{byte-is}
 use Prim.Native.Nat.{_+_}
 use native.Mathlib.Omega.{arith}
 use borrow.Author.Needs.{needs}
@@ -13,20 +13,20 @@ add-end c = search needs
 returns : tie.Need-returns
 returns c = λ e. absurd (omega arith)
 
-add-integer-fits : tie.Need-add-integer-fits
-add-integer-fits c = search needs
+add-is-in-code : tie.Need-add-is-in-code
+add-is-in-code c = search needs
 
-shared-slice-read-integer-fits : tie.Need-shared-slice-read-integer-fits
-shared-slice-read-integer-fits c = search needs
+shared-slice-read-is-in-code : tie.Need-shared-slice-read-is-in-code
+shared-slice-read-is-in-code c = search needs
 
-cast-integer-fits : tie.Need-cast-integer-fits
-cast-integer-fits c = omega (arith, c .shared-slice-known2 .given (c .before .before .before .args .at + 6))
+cast-is-in-code : tie.Need-cast-is-in-code
+cast-is-in-code c = omega (arith, c .shared-slice-known2 .given (c .before .before .before .args .at + 6))
 
-integer-fits-requires : tie.Need-integer-fits-requires
-integer-fits-requires c κs = let l = short-limit (c .before .before .before .args .code) (c .before .before .before .pre .1 .1) in (omega arith, (omega arith, omega (arith, c .shared-slice-known2 .given (c .before .before .before .args .at + 6))))
+is-in-code-requires : tie.Need-is-in-code-requires
+is-in-code-requires c κs = search needs
 
 returns-2 : tie.Need-returns-2
-returns-2 c = λ _. (omega arith, byte-is _ _ _ (omega arith) _ (c .before .before .before .before .before .pre .1 .0) (c .before .before .before .before .before .pre .1 .1) refl (c .before .integer-fits .ensures (c .if2 .taken)))
+returns-2 c = λ _. (omega arith, byte-is _ _ _ (omega arith) _ (c .before .before .before .before .before .pre .1 .0) (c .before .before .before .before .before .pre .1 .1) refl (sym (c .before .is-in-code .ensures) ∙ c .if2 .taken))
 
 returns-3 : tie.Need-returns-3
 returns-3 c = λ e. absurd (omega arith)
@@ -37,9 +37,9 @@ byte-end-spec =
     (tie.spec
     add-end
     returns
-    add-integer-fits
-    shared-slice-read-integer-fits
-    cast-integer-fits
-    integer-fits-requires
+    add-is-in-code
+    shared-slice-read-is-in-code
+    cast-is-in-code
+    is-in-code-requires
     returns-2
     returns-3)

@@ -13,6 +13,9 @@ add-end c = search needs
 returns : tie.Need-returns
 returns c = λ e. absurd (omega arith)
 
+cast-if2 : tie.Need-cast-if2
+cast-if2 c = search needs
+
 add-word-in : tie.Need-add-word-in
 add-word-in c = search needs
 
@@ -37,6 +40,7 @@ date-long-end-spec =
     (tie.spec
     add-end
     returns
+    cast-if2
     add-word-in
     word-in-requires
     returns-2

@@ -1,5 +1,7 @@
 -- The first mark and the pointer back, by the tag.
-use mathlib.Core.Path.{sym, _∙_}
+use Prim.Native.Nat.{_+_}
+use mathlib.Core.Path.{_≡_, sym, _∙_}
+use Rattle.cmf.specs.Grammar.{previousAt}
 use mathlib.Core.Bool.{false≢true}
 use borrow.Author.Tests.{eqb-true}
 use Rattle.quick.proofs.Pieces.{linked-first, linked-later}
@@ -11,26 +13,17 @@ use Rattle.quick.proofs.heads.is_linked.Tie as tie
 shared-slice-read-tag : tie.Need-shared-slice-read-tag
 shared-slice-read-tag c = search needs
 
-cast-tag : tie.Need-cast-tag
-cast-tag c = omega (arith, c .shared-slice-known2 .given (c .before .before .args .p))
-
 returns : tie.Need-returns
 returns c = λ e. rw (c .if1 .taken) (linked-first _ _ _ (eqb-true _ 1 e))
 
 returns-2 : tie.Need-returns-2
 returns-2 c = λ e. absurd (false≢true e)
 
+of-tag-requires : tie.Need-of-tag-requires
+of-tag-requires c κs = search needs
+
 add-word-in : tie.Need-add-word-in
 add-word-in c = search needs
-
-sub-word-in : tie.Need-sub-word-in
-sub-word-in c = search needs
-
-mul-word-in : tie.Need-mul-word-in
-mul-word-in c = search needs
-
-add-word-in-2 : tie.Need-add-word-in-2
-add-word-in-2 c = search needs
 
 word-in-requires : tie.Need-word-in-requires
 word-in-requires c κs = search needs
@@ -39,20 +32,17 @@ sub-result : tie.Need-sub-result
 sub-result c = search needs
 
 returns-3 : tie.Need-returns-3
-returns-3 c = λ e. linked-later _ _ _ _ (c .before .before .if1 .left) (c .before .if2 .left) (c .before .before .before .before .before .pre .1) (sym (c .word-in .ensures .0) ∙ eqb-true _ _ e)
+returns-3 c = λ e. let at : c .before .before .before .before .before .before .before .args .p + c .before .before .of-tag .result .back ≡ previousAt (c .before .before .before .before .before .before .before .args .image .now) (c .before .before .before .before .before .before .before .args .p) = omega (arith, c .before .before .of-tag .ensures .0) in linked-later _ _ _ _ (c .before .before .before .before .if1 .left) (c .before .before .before .if2 .left) (c .before .before .before .before .before .before .before .pre .1) (rw at at (sym (c .word-in .ensures .0)) ∙ eqb-true _ _ e)
 
 pub is-linked-spec : {M : Type 1} → statement M
 is-linked-spec =
     tie.close
     (tie.spec
     shared-slice-read-tag
-    cast-tag
     returns
     returns-2
+    of-tag-requires
     add-word-in
-    sub-word-in
-    mul-word-in
-    add-word-in-2
     word-in-requires
     sub-result
     returns-3)

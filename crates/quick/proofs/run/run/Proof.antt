@@ -18,7 +18,7 @@ abbrev μ-loop : tie.MeasureT-loop
 μ-loop image sheet marks₀ s₀ marks s = length image - s .stage .at
 
 loop-holds : tie.Need-loop-holds Inv-loop μ-loop
-loop-holds c = ((moves-none _ _ _ _ (c .before .before .pre .1) (c .before .before .pre .2), c .before .before .pre .0), refl)
+loop-holds c = ((moves-none _ _ _ _ (c .before .before .pre .head) (c .before .before .pre .inside), c .before .before .pre .going), refl)
 
 add-if1 : tie.Need-add-if1 Inv-loop μ-loop
 add-if1 c = omega (arith, c .before .loop .inv .0 .0 .fits)
@@ -39,7 +39,7 @@ shared-slice-read-tag : tie.Need-shared-slice-read-tag Inv-loop μ-loop
 shared-slice-read-tag c = omega arith
 
 take-usual-requires : tie.Need-take-usual-requires Inv-loop μ-loop
-take-usual-requires c κs = (omega arith, refl, omega (arith, c .before .before .before .before .before .before .loop .inv .1, c .before .before .before .before .before .before .before .before .before .pre .3))
+take-usual-requires c κs = (omega arith, refl, omega (arith, c .before .before .before .before .before .before .loop .inv .1, c .before .before .before .before .before .before .before .before .before .pre .marked))
 
 same-length-2 : tie.Need-same-length-2 Inv-loop μ-loop
 same-length-2 c = c .before .before .before .before .take-usual .kept .1 .1 .1 .1 .1 .0 ∙ c .before .before .before .before .before .before .before .before .before .before .before .loop .inv .1
