@@ -58,7 +58,8 @@ pub data TitleFault (im : List ℕ) (left t : ℕ) : ℕ → Type 0 where
 
 -- a line's head, with so many lines before it in the walk
 pub data HeadFault (im : List ℕ) (lines n before at p : ℕ) : ℕ → Type 0 where
-  -- row 6 (a padding byte beyond the image has its tag beyond it too)
+  -- row 6, R7: of the line as it is read at p. Where p is R6's place, a padding byte beyond the image has its tag beyond
+  -- it too; where p is elsewhere, that padding byte is not needed
   cut : HeadCut im p → HeadFault im lines n before at p 6
   -- row 7: R9; R7, the line does not stand at the first odd offset; R6, the byte skipped is not zero
   wrong : HeadWrong im p → HeadFault im lines n before at p 7

@@ -103,7 +103,7 @@ lineRow im sheet s k p =
     (if k =? s .here .cursor then greater else blank)
     ∷ (fit blank (s .columns - 2) (dataText im sheet s (componentsOf im p)) ++ (submenuMark (headAt im p) ∷ []))
 
--- R30: of a table of so many lines a row past the last is blank
+-- R10: every line has its row, whatever its enable byte; R30: of a table of so many lines a row past the last is blank
 unfoldable pub rowAt : List ℕ → List ℕ → Session → ℕ → ℕ → ℕ → List ℕ
 rowAt im sheet s count k p = if k <? count then lineRow im sheet s k p else fit blank (s .columns) []
 

@@ -28,7 +28,7 @@ firstFor rows cursor first =
 abbrev pub cursorOn : Session → ℕ → Session
 cursorOn s c = withHere s (level (s .here .table .0) c (firstFor (s .lines - 1) c (s .here .first)))
 
--- UP and DOWN go to the line before or behind, and flash where there is none
+-- UP and DOWN go to the line before or after, whatever its enable byte (R10), and flash where there is none
 unfoldable pub upStep : Session → Stepped
 upStep s = if s .here .cursor =? 0 then flash s else taken (cursorOn s (s .here .cursor - 1))
 
