@@ -24,7 +24,8 @@ pub record CursorIn (im : List ℕ) (fields : List Field) (l : Level) : Type 0 w
   pub line : LineIn im fields left (cursorLine im l)
 
 module _ (im : List ℕ) (fields : List Field) (lines : ℕ) where
-  level-in : (left t : ℕ) (l : Level) → Reached im fields (suc left) t → levelFits im lines t l ≡ true → LineIn im fields left (cursorLine im l)
+  -- the cursor line of a level that fits a table reached
+  pub level-in : (left t : ℕ) (l : Level) → Reached im fields (suc left) t → levelFits im lines t l ≡ true → LineIn im fields left (cursorLine im l)
   unfolding levelFits
   level-in left t l r h =
       let e = eqb-true (l .table .0) t (and-l _ _ h) in

@@ -3,6 +3,8 @@ pub mod FittingEntries
 pub mod WorkingCopies
 pub mod FittingVisits
 pub mod Unrefused
+pub mod Steps
+pub mod Pictures
 pub mod Examples
 pub mod Starred
 pub mod Promises

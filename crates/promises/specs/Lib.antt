@@ -1,2 +1,4 @@
 pub mod Unrefused
+pub mod Steps
+pub mod Pictures
 pub mod Promises

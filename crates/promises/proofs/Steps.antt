@@ -1,0 +1,378 @@
+-- What every Event keeps: the steps are gone through key by key, and each result is a flash of the session that the key has woken, or no flash.
+use Prim.Native.Nat.{ℕ, zero, suc, _+_, _≤_, _<_}
+use mathlib.Core.Path.{_≡_, refl, sym, ap, _∙_}
+use mathlib.Core.Logic.{inl, inr}
+use mathlib.Core.Bool.{Bool, true, false, false≢true}
+use mathlib.Core.List.{List, [], _∷_}
+use native.Mathlib.Omega.{arith}
+use lib.ListN.{length, set, take, length-take}
+use borrow.Author.Tests.{eqb-true, eqb-false, leb-true, ltb-true, ltb-false}
+use Rattle.laws.specs.Choice.{if_then_else_, _=?_, _<?_}
+use Rattle.laws.specs.Bytes.{byteAt}
+use Rattle.laws.proofs.Cases.{if-ind, if-true, if-false, if-eq, by-test, and-l, and-r}
+use Rattle.field.specs.declared.kind.ImagePlace.{ImagePlace}
+use Rattle.field.specs.declared.record.Field.{Field}
+use Rattle.field.specs.declared.work.Work.{Work}
+use Rattle.keys.specs.declared.press.Outcome.{Outcome}
+use Rattle.keys.specs.declared.press.Outcome.the-variants as outcome
+use Rattle.cmf.specs.Limits.{prologBytes, deepestTable}
+use Rattle.cmf.specs.Readers.{headAt, componentAt}
+use Rattle.cmf.specs.declared.component.Component.{Component}
+use Rattle.acceptance.proofs.Acceptance.{accepted-exactly-when-well-formed}
+use Rattle.acceptance.proofs.Reach.{Reached, no-levels, top-reached}
+use Rattle.session.specs.Events.{lastDigitKey, second}
+use Rattle.session.specs.Steps.{finishedFrom, told, taken, flash, isFlash, withIdle}
+use Rattle.session.specs.Fits.{cursorLine, cursorHead, levelsFit, tablesFit, modeFits, visitFits, entryFits, sessionFits}
+use Rattle.session.specs.Seconds.{browseSecond, entrySecond}
+use Rattle.session.specs.Browsing.{upStep, downStep, leftStep, descended, rightStep, enterStep, browseStep}
+use Rattle.session.specs.Passwords.{rightTo, entered, lastDigit, digitStep, entryStep}
+use Rattle.session.specs.Visits.{movedOn, followed, followedSheet, visitStep, visitSheet}
+use Rattle.session.specs.Event.{stepIn, sheetIn, stepOf, sheetOf}
+use Rattle.session.specs.declared.session.Level.{Level}
+use Rattle.session.specs.declared.session.Mode.{Mode}
+use Rattle.session.specs.declared.session.Mode.the-variants as mode
+use Rattle.session.specs.declared.session.Session.{Session}
+use Rattle.session.specs.declared.step.Answer.{Answer}
+use Rattle.session.specs.declared.step.Answer.the-variants as answer
+use Rattle.session.specs.declared.step.Stepped.{Stepped}
+use Rattle.session.proofs.Answers.{Near, told-once}
+use Rattle.handset.specs.Event.{eventRefusal, refusedWith, eventStep, eventTold, eventSheet}
+use Rattle.handset.proofs.Stepping.{refused-step, refused-sheet, stepped, stepped-sheet, EventGranted, event-granted}
+use Rattle.journal.proofs.Reached.{level-in}
+use Rattle.protected.proofs.Passwords.{head-guarded}
+use Rattle.promises.specs.Steps.{Unchanged, EventPromises}
+use Rattle.promises.proofs.Unrefused.{sheet-stays-long}
+
+-- ---- tables end at the eighth
+
+module _ (im : List ℕ) (fields : List Field) (lines : ℕ) where
+  -- a submenu of the shown table's cursor line has a level left below the tables that are open
+  level-left : (ls : List Level) (left t : ℕ) (here : Level) → Reached im fields left t → levelsFit im lines t ls here ≡ true
+      → cursorHead im here .submenu ≡ true → length ls + 1 < left
+  unfolding levelsFit cursorHead
+  level-left ls zero t here r h m = no-levels im fields t r
+  level-left [] (suc left) t here r h m = go left (level-in im fields lines left t here r h .below m)
+    where
+      go : (k : ℕ) → Reached im fields k (cursorHead im here .table) → 0 + 1 < suc k
+      go zero q = no-levels im fields (cursorHead im here .table) q
+      go (suc k) q = omega arith
+  level-left (l ∷ ls) (suc left) t here r h m =
+      omega (arith, level-left ls left (cursorHead im l .table) here below (and-r _ _ (and-r _ _ h)) m)
+    where
+      below : Reached im fields left (cursorHead im l .table)
+      below = level-in im fields lines left t l r (and-l _ _ h) .below (and-l _ _ (and-r _ _ h))
+
+-- ---- results
+
+module _ (im : List ℕ) (s : Session) (e : ℕ) where
+  -- what is promised of a step with result r
+  record Kept (r : Stepped) : Type 0 where
+    idle : (e ≡ second → ⊥) → r .session .idle ≡ 0
+    flash : isFlash (r .answer) ≡ true → Unchanged im s e (r .session)
+
+  -- a choice of two results
+  by-kept : (t : Bool) {x y : Stepped} → (t ≡ true → Kept x) → (t ≡ false → Kept y) → Kept (if t then x else y)
+  by-kept t f g = if-ind Kept t f g
+
+  -- a woken session with another answer than a flash
+  heeds : {r : Stepped} → isFlash (r .answer) ≡ false → r .session .idle ≡ 0 → Kept r
+  heeds a i = record { idle = λ _. i; flash = λ h. absurd (false≢true (sym a ∙ h)) }
+
+  -- a second never flashes
+  counts : {r : Stepped} → e ≡ second → isFlash (r .answer) ≡ false → Kept r
+  counts q a = record { idle = λ n. absurd (n q); flash = λ h. absurd (false≢true (sym a ∙ h)) }
+
+  -- a flash of the woken session
+  flashes : Kept (flash (withIdle s 0))
+  flashes = record { idle = λ _. refl; flash = λ _. inl refl }
+
+  -- ---- browsing
+
+  up-kept : Kept (upStep (withIdle s 0))
+  unfolding upStep
+  up-kept = by-kept _ (λ _. flashes) (λ _. heeds refl refl)
+
+  down-kept : Kept (downStep im (withIdle s 0))
+  unfolding downStep
+  down-kept = by-kept _ (λ _. heeds refl refl) (λ _. flashes)
+
+  left-kept : Kept (leftStep (withIdle s 0))
+  unfolding leftStep
+  left-kept = by-kept _ (λ _. flashes) (λ _. heeds refl refl)
+
+  right-kept : Kept (rightStep im (withIdle s 0))
+  unfolding rightStep descended
+  right-kept =
+      by-kept _ (λ _. by-kept _ (λ _. heeds refl refl) (λ _. by-kept _ (λ _. heeds refl refl) (λ _. flashes)))
+      (λ _. flashes)
+
+  enter-kept : (sheet : List ℕ) → Kept (enterStep im sheet (withIdle s 0))
+  unfolding enterStep
+  enter-kept sheet = by-kept _ (λ _. heeds refl refl) (λ _. flashes)
+
+  second-kept : e ≡ second → Kept (browseSecond im s)
+  unfolding browseSecond
+  second-kept q = by-kept _ (λ _. counts q refl) (λ _. counts q refl)
+
+  browse-kept : (sheet : List ℕ) → Kept (browseStep im sheet s e)
+  unfolding browseStep
+  browse-kept sheet =
+      by-kept _ (λ _. up-kept)
+      (λ _. by-kept _ (λ _. down-kept)
+      (λ _. by-kept _ (λ _. left-kept)
+      (λ _. by-kept _ (λ _. right-kept)
+      (λ _. by-kept _ (λ _. enter-kept sheet)
+      (λ _. by-kept _ (λ q. second-kept (eqb-true e second q)) (λ _. flashes))))))
+
+  -- ---- a visit
+
+  -- the next visit, or browsing
+  moved-on : (sheet : List ℕ) (p : ℕ) → movedOn im sheet (withIdle s 0) p .idle ≡ 0
+  unfolding movedOn
+  moved-on sheet p = if-ind (λ (z : Session). z .idle ≡ 0) _ (λ _. refl) (λ _. refl)
+
+  followed-kept : (sheet : List ℕ) (p : ImagePlace) (f : Field) (w : Work) (o : Outcome)
+      → Kept (followed im sheet (withIdle s 0) p f w o)
+  unfolding followed
+  followed-kept sheet p f w outcome.Taken = heeds refl refl
+  followed-kept sheet p f w outcome.Flash = flashes
+  followed-kept sheet p f w outcome.NextPart = heeds refl refl
+  followed-kept sheet p f w outcome.Done = heeds refl (moved-on _ (p .0))
+  followed-kept sheet p f w outcome.Fired = heeds refl refl
+  followed-kept sheet p f w outcome.Passed = heeds refl (moved-on sheet (p .0))
+
+  visit-kept : (sheet : List ℕ) (p : ImagePlace) → Kept (visitStep im sheet s p e)
+  unfolding visitStep
+  visit-kept sheet p = by-kept _ (λ q. counts (eqb-true e second q) refl) (λ _. followed-kept sheet p _ _ _)
+
+  -- ---- an entry of n digits, fewer than the password of the line has, in a session whose line may have a submenu
+
+  module _ (n : ℕ) (m : s .mode ≡ mode.Password n) (few : n < byteAt im (cursorHead im (s .here) .password))
+      (room : length (s .above) ≡ 7 → s .outer + 1 < deepestTable) where
+    module _ (d : e ≤ lastDigitKey) (l : n + 1 ≡ byteAt im (cursorHead im (s .here) .password)) where
+      abbrev typed : List ℕ
+      typed = set (s .typed) n e
+
+      -- the entry fails
+      fails : (length (s .above) ≡ 7 → rightTo im (cursorHead im (s .here) .password + 1) typed (n + 1) ≡ false)
+          → Kept (flash (entered (withIdle s 0) typed))
+      fails w = record {
+        idle = λ _. refl;
+        flash = λ _. inr (record { before = n; entry = m; digit = d; last = l; wrong = w; after = refl });
+      }
+
+      -- the last digit; where all are right the submenu opens, since a table is left below
+      last-kept : Kept (lastDigit im (withIdle s 0) (cursorHead im (s .here)) typed (n + 1))
+      unfolding lastDigit descended
+      last-kept =
+          by-kept _
+          (λ _. by-kept _ (λ _. heeds refl refl)
+          (λ deep. fails (λ z. absurd (omega (arith, room z, ltb-false (s .outer + 1) deepestTable deep)))))
+          (λ w. fails (λ _. w))
+
+    digit-kept : e ≤ lastDigitKey → Kept (digitStep im (withIdle s 0) (cursorHead im (s .here)) n e)
+    unfolding digitStep
+    digit-kept d =
+        by-kept _ (λ _. heeds refl refl)
+        (λ l. last-kept d (omega (arith, ltb-false (n + 1) (byteAt im (cursorHead im (s .here) .password)) l)))
+
+    wait-kept : e ≡ second → Kept (entrySecond im s)
+    unfolding entrySecond
+    wait-kept q = by-kept _ (λ _. counts q refl) (λ _. counts q refl)
+
+    entry-kept : Kept (entryStep im s n e)
+    unfolding entryStep
+    entry-kept =
+        by-kept _ (λ q. wait-kept (eqb-true e second q))
+        (λ _. by-kept _ (λ _. heeds refl refl)
+        (λ _. by-kept _ (λ d. digit-kept (leb-true e 9 d)) (λ _. flashes)))
+
+-- ---- every event
+
+-- the password of an entry that fits, and that a table may be opened below its line
+record Asks (im : List ℕ) (s : Session) (n : ℕ) : Type 0 where
+  few : n < byteAt im (cursorHead im (s .here) .password)
+  room : length (s .above) ≡ 7 → s .outer + 1 < deepestTable
+
+module _ (im sheet : List ℕ) (s : Session) (e : ℕ) (g : EventGranted im (length sheet) s e) where
+  -- an event that is not refused finds so, since image and session were tested
+  asked : (n : ℕ) → s .mode ≡ mode.Password n → Asks im s n
+  unfolding sessionFits tablesFit modeFits entryFits cursorHead
+  asked n m =
+      let fits = g .granted .fits in
+      let entry : modeFits im s (mode.Password n) ≡ true = rw m at (and-r _ _ (and-r _ _ fits)) in
+      let w = accepted-exactly-when-well-formed im (length sheet) .0 (g .granted .accepted) in
+      let tables = and-l _ _ (and-r _ _ fits) in
+      record {
+        few = ltb-true n (byteAt im (headAt im (cursorLine im (s .here)) .password)) (and-l _ _ (and-r _ _ entry));
+        room = λ z.
+            let o = ltb-true (s .outer) deepestTable (and-l _ _ tables) in
+            let d =
+            level-left im (w .fields) (s .lines) (take (s .outer) (s .above)) deepestTable prologBytes (s .here)
+            (top-reached im (length sheet) w) (and-r _ _ tables)
+            (head-guarded im (cursorLine im (s .here)) .submenu (and-l _ _ entry)) in
+            omega (arith, length-take (s .outer) (s .above));
+      }
+
+  -- by the mode
+  mode-kept : (m : Mode) → s .mode ≡ m → Kept im s e (stepIn im sheet s e m)
+  unfolding stepIn
+  mode-kept mode.Browsing q = browse-kept im s e sheet
+  mode-kept (mode.Visit p) q = visit-kept im s e sheet p
+  mode-kept (mode.Password n) q = let a = asked n q in entry-kept im s e n q (a .few) (a .room)
+
+-- ---- the sheet
+
+-- only a finished visit changes it
+followed-writes : (im sheet : List ℕ) (s : Session) (p : ImagePlace) (f : Field) (w : Work) (o : Outcome)
+    → ((q : ImagePlace) → followed im sheet s p f w o .answer ≡ answer.Finished q → ⊥) → followedSheet sheet f w o ≡ sheet
+unfolding followed followedSheet
+followed-writes im sheet s p f w outcome.Taken n = refl
+followed-writes im sheet s p f w outcome.Flash n = refl
+followed-writes im sheet s p f w outcome.NextPart n = refl
+followed-writes im sheet s p f w outcome.Done n = absurd (n p refl)
+followed-writes im sheet s p f w outcome.Fired n = refl
+followed-writes im sheet s p f w outcome.Passed n = refl
+
+visit-writes : (im sheet : List ℕ) (s : Session) (p : ImagePlace) (e : ℕ)
+    → ((q : ImagePlace) → visitStep im sheet s p e .answer ≡ answer.Finished q → ⊥) → visitSheet im sheet s p e ≡ sheet
+unfolding visitStep visitSheet
+visit-writes im sheet s p e n =
+    by-test (e =? second) (λ h. if-true _ _ h)
+    (λ h. if-false _ _ h
+    ∙ followed-writes im sheet (withIdle s 0) p _ _ _
+    (λ q a. n q (ap (λ (r : Stepped). r .answer) (if-false _ _ h) ∙ a)))
+
+mode-writes : (im sheet : List ℕ) (s : Session) (e : ℕ) (m : Mode)
+    → ((q : ImagePlace) → stepIn im sheet s e m .answer ≡ answer.Finished q → ⊥) → sheetIn im sheet s e m ≡ sheet
+unfolding stepIn sheetIn
+mode-writes im sheet s e mode.Browsing n = refl
+mode-writes im sheet s e (mode.Visit p) n = visit-writes im sheet s p e n
+mode-writes im sheet s e (mode.Password k) n = refl
+
+-- ---- numbers of answers
+
+-- 1 is the number of a flash alone
+told-flash : (a : Answer) → told a ≡ told answer.Flash → isFlash a ≡ true
+unfolding told
+told-flash answer.Taken h = absurd (omega arith)
+told-flash answer.Flash h = refl
+told-flash (answer.Finished p) h = absurd (omega arith)
+told-flash (answer.Fired p) h = absurd (omega arith)
+told-flash (answer.Refused k) h = absurd (omega arith)
+
+-- a component that holds a field begins in the image
+holds-inside : (im : List ℕ) (p : ℕ) → componentAt im p .holds ≡ true → p < length im
+unfolding componentAt
+holds-inside im p =
+    if-ind (λ (c : Component). c .holds ≡ true → p < length im) (p <? length im) (λ h _. ltb-true p (length im) h)
+    (λ _ h. absurd (false≢true h))
+
+-- a result whose answer has a place below 65,536, or none
+record Placed (r : Stepped) : Type 0 where
+  near : Near (r .answer)
+
+by-placed : (t : Bool) {x y : Stepped} → (t ≡ true → Placed x) → (t ≡ false → Placed y) → Placed (if t then x else y)
+by-placed t f g = if-ind Placed t f g
+
+taken-placed : (s : Session) → Placed (taken s)
+taken-placed s = record { near = tt }
+
+flash-placed : (s : Session) → Placed (flash s)
+flash-placed s = record { near = tt }
+
+-- the answers of a visit name its own place
+followed-placed : (im sheet : List ℕ) (s : Session) (p : ImagePlace) (f : Field) (w : Work) (o : Outcome) → p .0 < finishedFrom
+    → Placed (followed im sheet s p f w o)
+unfolding followed
+followed-placed im sheet s p f w outcome.Taken h = taken-placed _
+followed-placed im sheet s p f w outcome.Flash h = flash-placed _
+followed-placed im sheet s p f w outcome.NextPart h = taken-placed _
+followed-placed im sheet s p f w outcome.Done h = record { near = h }
+followed-placed im sheet s p f w outcome.Fired h = record { near = h }
+followed-placed im sheet s p f w outcome.Passed h = taken-placed _
+
+-- which is in the image, where the session fits
+visit-inside : (im : List ℕ) (s : Session) (p : ImagePlace) → sessionFits im s ≡ true → s .mode ≡ mode.Visit p → p .0 < length im
+unfolding sessionFits modeFits visitFits
+visit-inside im s p h m =
+    let v : modeFits im s (mode.Visit p) ≡ true = rw m at (and-r _ _ (and-r _ _ h)) in
+    holds-inside im (p .0) (and-l _ _ (and-r _ _ v))
+
+mode-placed : (im sheet : List ℕ) (s : Session) (e : ℕ) (m : Mode) → ((p : ImagePlace) → m ≡ mode.Visit p → p .0 < finishedFrom)
+    → Placed (stepIn im sheet s e m)
+unfolding stepIn browseStep upStep downStep leftStep descended rightStep enterStep browseSecond visitStep entryStep entrySecond digitStep lastDigit
+mode-placed im sheet s e mode.Browsing h = search (by-placed, taken-placed, flash-placed) depth 30
+mode-placed im sheet s e (mode.Visit p) h =
+    by-placed _ (λ _. taken-placed s) (λ _. followed-placed im sheet _ p _ _ _ (h p refl))
+mode-placed im sheet s e (mode.Password k) h = search (by-placed, taken-placed, flash-placed) depth 30
+
+-- ---- Event
+
+module _ (im sheet : List ℕ) (s : Session) (e : ℕ) where
+  abbrev refusal : ℕ
+  refusal = eventRefusal im (length sheet) s e
+
+  -- the step of its mode, or a refusal
+  by-refusal : (P : Stepped → List ℕ → Type 0) → (refusal ≡ 0 → P (stepOf im sheet s e) (sheetOf im sheet s e))
+      → ((refusal ≡ 0 → ⊥) → P (refusedWith s refusal) sheet) → P (eventStep im sheet s e) (eventSheet im sheet s e)
+  by-refusal P f g =
+      by-test (refusal =? 0)
+      (λ h. let z = eqb-true refusal 0 h in
+      rw (← stepped im sheet s e _ refl z, ← stepped-sheet im sheet s e _ refl z) (f z))
+      (λ h. let z = eqb-false refusal 0 h in
+      rw (← refused-step im sheet s e _ refl z, ← refused-sheet im sheet s e _ refl z) (g z))
+
+  -- what a step that is not refused keeps
+  step-kept : refusal ≡ 0 → Kept im s e (stepOf im sheet s e)
+  step-kept h = mode-kept im sheet s e (event-granted im (length sheet) s e h) (s .mode) refl
+
+  event-flash : isFlash (eventStep im sheet s e .answer) ≡ true → Unchanged im s e (eventStep im sheet s e .session)
+  event-flash =
+      by-refusal (λ (r : Stepped) (x : List ℕ). isFlash (r .answer) ≡ true → Unchanged im s e (r .session))
+      (λ h. step-kept h .flash) (λ _ h. absurd (false≢true h))
+
+  event-writes : ((p : ImagePlace) → eventStep im sheet s e .answer ≡ answer.Finished p → ⊥) → eventSheet im sheet s e ≡ sheet
+  event-writes =
+      by-refusal (λ (r : Stepped) (x : List ℕ). ((p : ImagePlace) → r .answer ≡ answer.Finished p → ⊥) → x ≡ sheet)
+      (λ _. mode-writes im sheet s e (s .mode)) (λ _ _. refl)
+
+  visit-waits : (m : Mode) (p : ImagePlace) → m ≡ mode.Visit p → e ≡ second → stepIn im sheet s e m ≡ taken s
+  unfolding stepIn visitStep
+  visit-waits m p q h = rw q (if-eq e second _ _ h)
+
+  -- no second writes
+  second-writes : (m : Mode) → e ≡ second → sheetIn im sheet s e m ≡ sheet
+  unfolding sheetIn visitSheet
+  second-writes mode.Browsing q = refl
+  second-writes (mode.Visit p) q = if-eq e second _ _ q
+  second-writes (mode.Password n) q = refl
+
+  -- the place that an answer names is below 65,536
+  pub event-near : Near (eventStep im sheet s e .answer)
+  event-near =
+      by-refusal (λ (r : Stepped) (x : List ℕ). Near (r .answer))
+      (λ h. let g = event-granted im (length sheet) s e h in
+      let w = accepted-exactly-when-well-formed im (length sheet) .0 (g .granted .accepted) in
+      mode-placed im sheet s e (s .mode)
+      (λ p m. omega (arith, visit-inside im s p (g .granted .fits) m, w .prolog .most)) .near)
+      (λ _. tt)
+
+  pub event-promises : EventPromises im sheet s e
+  unfolding eventTold
+  event-promises = record {
+    flash = λ h. event-flash (told-flash _ h);
+    writes = λ n. event-writes (λ p a. n p (ap told a));
+    flash-sheet = λ h. event-writes (λ p a. absurd (false≢true (sym (ap isFlash a) ∙ told-flash _ h)));
+    sheet-length =
+        by-refusal (λ (r : Stepped) (x : List ℕ). length x ≡ length sheet) (λ _. sheet-stays-long im sheet s e) (λ _. refl);
+    wakes = λ h n. rw (← stepped im sheet s e _ refl h) (step-kept h .idle n);
+    visit-second = λ h q p m. sym (stepped im sheet s e _ refl h) ∙ visit-waits (s .mode) p m q;
+    second-sheet = λ q. by-refusal (λ (r : Stepped) (x : List ℕ). x ≡ sheet) (λ _. second-writes (s .mode) q) (λ _. refl);
+  }
+
+-- the number of an answer settles it
+pub told-apart : (im sheet : List ℕ) (s : Session) (e : ℕ) (im′ sheet′ : List ℕ) (s′ : Session) (e′ : ℕ)
+    → eventTold im sheet s e ≡ eventTold im′ sheet′ s′ e′ → eventStep im sheet s e .answer ≡ eventStep im′ sheet′ s′ e′ .answer
+unfolding eventTold
+told-apart im sheet s e im′ sheet′ s′ e′ h = told-once _ _ (event-near im sheet s e) (event-near im′ sheet′ s′ e′) h
