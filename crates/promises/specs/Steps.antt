@@ -1,5 +1,5 @@
 -- What holds of every Event, whatever image, sheet, session and event are: theorems over the definitions that
--- its contract cites. The rules, one definition a key, say what each key does; here is what none of them does.
+-- its contract cites. The rules, a definition for each key, say what it does; here is what none of them does.
 use Prim.Native.Nat.{ℕ, _+_, _≤_}
 use mathlib.Core.Path.{_≡_}
 use mathlib.Core.Logic.{_⊎_}
@@ -24,7 +24,7 @@ pub record EntryFails (im : List ℕ) (s : Session) (e : ℕ) (z : Session) : Ty
   pub entry : s .mode ≡ mode.Password before
   pub digit : e ≤ lastDigitKey
   pub last : before + 1 ≡ byteAt im (cursorHead im (s .here) .password)
-  -- a session of the code has an array of seven levels above the shown one; as a list it could have any number
+  -- a session of the code has seven levels above the shown one in its array; a list could have any number
   pub wrong : length (s .above) ≡ 7
       → rightTo im (cursorHead im (s .here) .password + 1) (set (s .typed) before e) (before + 1) ≡ false
   -- the idle count, the mode and the digits typed are new, and nothing else is

@@ -1,10 +1,15 @@
 -- The images of 01's cases, as short as section 7 lets them be: a row for each structure, with its place.
 use Prim.Native.Nat.{ℕ}
 use mathlib.Core.List.{List, [], _∷_}
+use Rattle.cmf.proofs.Example.{image}
+
+-- the image of 01's picture, which `cmf` has as its example of the grammar: the option is at 24
+abbrev pub pictured : List ℕ
+pictured = image
 
 -- ---- one line with one component
 
--- title T and one line; its components stand from 14 on
+-- title T and one line; its components follow from 14 on
 abbrev alone : List ℕ → List ℕ
 alone components =
     0x43 ∷ 0x4d ∷ 0x46 ∷ 0 ∷ 4 ∷ 0 ∷ 0 ∷ 0 ∷ 0xff ∷ 0xfe ∷  -- 0: prolog
