@@ -19,11 +19,16 @@ use Rattle.acceptance.proofs.Acceptance.{accepted-exactly-when-well-formed, cou
 use Rattle.acceptance.proofs.Faulty.{refused-exactly-when}
 use Rattle.acceptance.proofs.Fields.{every-in}
 use Rattle.session.specs.Events.{second}
+use Rattle.session.specs.Steps.{told}
 use Rattle.session.specs.Fits.{shapeFits, sessionFits}
 use Rattle.session.specs.declared.session.Session.{Session}
+use Rattle.session.specs.declared.step.Stepped.{Stepped}
 use Rattle.session.proofs.Closed.{closed-never-fits}
+use Rattle.picture.specs.Cursor as cursor
+use Rattle.picture.specs.declared.cursor.EditCursor.{EditCursor}
+use Rattle.picture.specs.declared.cursor.EditCursor.the-variants.{Nowhere, At}
 use Rattle.handset.specs.Refusals.{_before_, _unless_, sessionRefusal}
-use Rattle.handset.specs.Event.{eventRefusal}
+use Rattle.handset.specs.Event.{eventRefusal, eventTold}
 use Rattle.handset.specs.Open.{openRefusal, openAnswer, openSheet}
 use Rattle.handset.specs.OptionText.{reached, itemsIn, textRefusal, optionText}
 use Rattle.handset.specs.Draw.{drawRefusal, drawCursor, drawnPicture}
@@ -34,11 +39,17 @@ use Rattle.handset.proofs.Items.{item-is}
 use Rattle.journal.specs.Journal.{allVisited}
 use Rattle.journal.specs.Rules.{fieldAt, rulesOf, IsField, Beside}
 use Rattle.journal.specs.Sitting.{begunWith}
-use Rattle.promises.specs.Promises.{Demand1, Demand2, Demand3, Candidate, start, visitsAt, bytesAt}
+use Rattle.promises.specs.Promises.{Promises}
+use Rattle.promises.specs.Demand1.{Demand1}
+use Rattle.promises.specs.Demand2.{Demand2}
+use Rattle.promises.specs.Demand3.{Demand3, Candidate, start, visitsAt, bytesAt}
 use Rattle.journal.proofs.Sittings.{formed, at-default, sheet-holds-journal, default-changed-by-own-visits, own-visits-finish}
 use Rattle.journal.proofs.Beside.{played-apart}
 use Rattle.protected.proofs.Protected.{only-after-its-digits, every-protected-line-was-opened-by-its-digits}
 use Rattle.promises.proofs.Unrefused.{never-refused}
+use Rattle.promises.proofs.Steps.{told-apart, event-promises}
+use Rattle.promises.proofs.Pictures.{draw-promises}
+use Rattle.promises.proofs.Starred.{starred-as-listed}
 
 -- ---- the order of refusals, as choices
 
@@ -88,23 +99,24 @@ text-order im sheet place item = one-test (refusalOf im sheet) 14 _
 
 -- ---- demand 1
 
-pub demand-1 : Demand1
-unfolding openAnswer openSheet drawCursor drawnPicture optionText
-demand-1 = record {
-  number = refused-exactly-when;
-  open-number = open-order;
-  event-number = event-order;
-  draw-number = draw-order;
-  text-number = text-order;
-  open-tells = λ im sheet columns lines. refl;
-  open-closes = λ im sheet columns lines h. if-ne (openRefusal im sheet columns lines) 0 _ _ h;
-  open-keeps = λ im sheet columns lines h. if-ne (openRefusal im (length sheet) columns lines) 0 _ _ h;
-  closed-unfit = closed-never-fits;
-  event-returns = λ im sheet s e h. sym (refused-step im sheet s e _ refl h);
-  event-keeps = λ im sheet s e h. sym (refused-sheet im sheet s e _ refl h);
-  draw-nowhere = λ im sheet s n h. if-ne (drawRefusal im sheet s n) 0 _ _ h;
-  draw-keeps = λ im sheet s picture h. if-ne (drawRefusal im (length sheet) s (length picture)) 0 _ _ h;
-  text-empty = λ im sheet place item h. if-ne (textRefusal im sheet place item) 0 _ _ h;
+pub demand-1 : (im : List ℕ) → Demand1 im
+unfolding openAnswer openSheet eventTold drawCursor drawnPicture optionText cursor.told
+demand-1 im = record {
+  number = refused-exactly-when im;
+  open-number = open-order im;
+  event-number = event-order im;
+  draw-number = draw-order im;
+  text-number = text-order im;
+  open-tells = λ sheet columns lines. refl;
+  open-closes = λ sheet columns lines h. if-ne (openRefusal im sheet columns lines) 0 _ _ h;
+  closed-unfit = closed-never-fits im;
+  open-keeps = λ sheet columns lines h. if-ne (openRefusal im (length sheet) columns lines) 0 _ _ h;
+  event-tells = λ sheet s e h. ap (λ (r : Stepped). told (r .answer)) (sym (refused-step im sheet s e _ refl h));
+  event-returns = λ sheet s e h. sym (refused-step im sheet s e _ refl h);
+  event-keeps = λ sheet s e h. sym (refused-sheet im sheet s e _ refl h);
+  draw-nowhere = λ sheet s n h. if-ne (drawRefusal im sheet s n) 0 _ _ h;
+  draw-keeps = λ sheet s picture h. if-ne (drawRefusal im (length sheet) s (length picture)) 0 _ _ h;
+  text-empty = λ sheet place item h. if-ne (textRefusal im sheet place item) 0 _ _ h;
 }
 
 -- every field of the derivation is read at its place, so that `IsField` misses none
@@ -180,24 +192,37 @@ only-text im sheet place item h =
     let r = reached-field place (w .fields) (rw (counted im sheet w .index) at (and-l _ _ b)) in
     (rw (r .place) at (field-stands im sheet w (r .field) (r .known) .1), ltb-true item _ (and-r _ _ b))
 
-pub demand-2 : Demand2
-unfolding begunWith openAnswer drawCursor drawnPicture
-demand-2 = record {
-  accepted = accepted-exactly-when-well-formed;
-  open-accepts = open-well;
-  opens = λ im sheet columns lines h. if-eq (openRefusal im sheet columns lines) 0 _ _ h;
-  defaults = at-default;
-  nothing-else = sheet-beside;
-  every-field = field-stands;
-  steps = λ im sheet s e h. sym (stepped im sheet s e _ refl h);
-  stores = λ im sheet s e h. sym (stepped-sheet im sheet s e _ refl h);
-  draws = λ im sheet s picture h. if-eq (drawRefusal im (length sheet) s (length picture)) 0 _ _ h;
-  points = λ im sheet s n h. if-eq (drawRefusal im sheet s n) 0 _ _ h;
-  text-given = given-text;
-  text-only = only-text;
-  texts = item-is;
-  protected = only-after-its-digits;
-  unlocked = every-protected-line-was-opened-by-its-digits;
+-- a cursor is found again from its numbers
+cursor-once : (a b : EditCursor) → cursor.told a ≡ cursor.told b → a ≡ b
+unfolding cursor.told
+cursor-once Nowhere Nowhere h = refl
+cursor-once Nowhere (At r c) h = let z : _≡_ {A = ℕ} 0 1 = cc in absurd (omega arith)
+cursor-once (At r c) Nowhere h = let z : _≡_ {A = ℕ} 0 1 = cc in absurd (omega arith)
+cursor-once (At r c) (At q d) h = cc
+
+pub demand-2 : (im : List ℕ) → Demand2 im
+unfolding begunWith openAnswer eventTold drawCursor drawnPicture
+demand-2 im = record {
+  accepted = accepted-exactly-when-well-formed im;
+  open-accepts = open-well im;
+  every-field = field-stands im;
+  opens = λ sheet columns lines h. if-eq (openRefusal im sheet columns lines) 0 _ _ h;
+  defaults = at-default im;
+  nothing-else = sheet-beside im;
+  steps = λ sheet s e h. sym (stepped im sheet s e _ refl h);
+  answers = λ sheet s e h. ap (λ (r : Stepped). told (r .answer)) (sym (stepped im sheet s e _ refl h));
+  stores = λ sheet s e h. sym (stepped-sheet im sheet s e _ refl h);
+  told-apart = told-apart im;
+  every-event = event-promises im;
+  draws = λ sheet s picture h. if-eq (drawRefusal im (length sheet) s (length picture)) 0 _ _ h;
+  points = λ sheet s n h. if-eq (drawRefusal im sheet s n) 0 _ _ h;
+  cursors-apart = cursor-once;
+  every-draw = draw-promises im;
+  text-given = given-text im;
+  text-only = only-text im;
+  texts = item-is im;
+  protected = only-after-its-digits im;
+  unlocked = every-protected-line-was-opened-by-its-digits im;
 }
 
 -- C: two candidates with the same finished visits at a field, in whatever order they went from field to field
@@ -207,14 +232,18 @@ two-candidates im a b q f h =
     ∙ ap (allVisited (rulesOf im) q (bytesOf (fieldAt im q .default))) h
     ∙ sym (default-changed-by-own-visits im (b .sheet) (b .columns) (b .lines) (b .accepted) (b .events) q f)
 
-pub demand-3 : Demand3
-demand-3 = record {
-  journal = λ {im} c. sheet-holds-journal im (c .sheet) (c .columns) (c .lines) (c .accepted) (c .events);
-  visits = λ {im} c q f. default-changed-by-own-visits im (c .sheet) (c .columns) (c .lines) (c .accepted) (c .events) q f;
-  finishes = λ {im} c q. own-visits-finish im (c .sheet) (c .columns) (c .lines) (c .accepted) (c .events) q;
-  candidates = λ {im} a b q f h. two-candidates im a b q f h;
-  beside = λ {im} c from n b.
+pub demand-3 : (im : List ℕ) → Demand3 im
+demand-3 im = record {
+  journal = λ c. sheet-holds-journal im (c .sheet) (c .columns) (c .lines) (c .accepted) (c .events);
+  visits = λ c q f. default-changed-by-own-visits im (c .sheet) (c .columns) (c .lines) (c .accepted) (c .events) q f;
+  finishes = λ c q. own-visits-finish im (c .sheet) (c .columns) (c .lines) (c .accepted) (c .events) q;
+  candidates = λ a b q f h. two-candidates im a b q f h;
+  beside = λ c from n b.
       played-apart im from n b (c .events) (start c)
       ∙ sheet-beside im (c .sheet) (c .columns) (c .lines) (c .accepted) from n b;
-  never-refused = λ {im} c. never-refused im (c .sheet) (c .columns) (c .lines) (c .accepted) (c .events);
+  never-refused = λ c. never-refused im (c .sheet) (c .columns) (c .lines) (c .accepted) (c .events);
 }
+
+-- all that is promised
+pub promises : Promises
+promises = record { refusals = demand-1; rules = demand-2; sittings = demand-3; starred = starred-as-listed }

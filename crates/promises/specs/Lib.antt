@@ -1,6 +1,9 @@
-pub mod Unrefused
+pub mod Promises
+pub mod Demand1
+pub mod Demand2
 pub mod Steps
 pub mod Pictures
-pub mod Examples
+pub mod Demand3
+pub mod Unrefused
 pub mod Starred
-pub mod Promises
+pub mod Examples

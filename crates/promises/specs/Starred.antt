@@ -1,5 +1,5 @@
--- 01's starred cases, one statement over one list, in 01's order: what comes of Open and of each event, with the
--- session and the sheet that the call before left. What is listed was worked out by hand from 01.
+-- 01's starred cases, one statement over one list, in 01's order: what comes of Open and of each event, with
+-- the session and the sheet that the call before left. What is listed was worked out by hand from 01.
 use Prim.Native.Nat.{ℕ, _+_}
 use mathlib.Core.Path.{_≡_}
 use mathlib.Core.List.{List, [], _∷_, map}
@@ -21,8 +21,8 @@ use Rattle.promises.specs.Examples.{pictured, counter, wideCounter, cloc
 pub data Seen : Type 0 where
   -- Open is refused: its number, the session that it gives, and the sheet
   refused : ℕ → Session → List ℕ → Seen
-  -- else the number of each answer (`told`); and at the end the sheet, and the image place and the cursor line,
-  -- from 0, of the shown table
+  -- else the number of each answer (`told`); and at the end the sheet, and the image place and the cursor
+  -- line, from 0, of the shown table
   gives : List ℕ → List ℕ → ℕ → ℕ → Seen
 
 -- what Open is given, the events, and what is to be seen

@@ -1,5 +1,5 @@
--- In a sitting no event 0 to 16 is refused, and no Draw of the right size: what is promised of the session and the sheet that Open and the events
--- after it lead to.
+-- In a sitting no event 0 to 16 is refused, and no Draw of the right size: what is promised of the session
+-- and the sheet that Open and the events after it lead to.
 use Prim.Native.Nat.{ℕ, _*_, _≤_, _<_}
 use mathlib.Core.Path.{_≡_}
 use mathlib.Core.Bool.{true, false}
