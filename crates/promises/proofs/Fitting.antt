@@ -35,15 +35,15 @@ pub record Sized (s : Session) : Type 0 where
 -- ---- one level
 
 -- a level shows the table at t, with its cursor line among the rows shown
-record Shows (im : List ℕ) (rows t : ℕ) (l : Level) : Type 0 where
-  table : l .table .0 ≡ t
-  line : l .cursor < lineCount im t
-  low : l .first ≤ l .cursor
-  high : l .cursor < l .first + rows
+pub record Shows (im : List ℕ) (rows t : ℕ) (l : Level) : Type 0 where
+  pub table : l .table .0 ≡ t
+  pub line : l .cursor < lineCount im t
+  pub low : l .first ≤ l .cursor
+  pub high : l .cursor < l .first + rows
 
 module _ (im : List ℕ) (lines t : ℕ) (l : Level) where
   -- a level that passes the test
-  level-true : levelFits im lines t l ≡ true → Shows im (lines - 1) t l
+  pub level-true : levelFits im lines t l ≡ true → Shows im (lines - 1) t l
   unfolding levelFits
   level-true h = record {
     table = eqb-true (l .table .0) t (and-l _ _ h);

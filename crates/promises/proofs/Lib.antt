@@ -2,6 +2,7 @@ pub mod Fitting
 pub mod FittingEntries
 pub mod WorkingCopies
 pub mod FittingVisits
+pub mod Answering
 pub mod Unrefused
 pub mod Steps
 pub mod Pictures

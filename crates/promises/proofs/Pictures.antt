@@ -1,12 +1,12 @@
 -- What every Draw keeps. The cursor line of a session that fits is within the rows shown, and a data cell is cut at the last one. A row reads the
 -- sheet only where one of its components shows a field, and there only the field's own bytes.
 use Prim.Native.Nat.{ℕ, zero, suc, _+_, _-_, _≤_, _<_}
-use mathlib.Core.Path.{_≡_, refl, sym, _∙_}
+use mathlib.Core.Path.{_≡_, refl, sym, subst, _∙_}
 use mathlib.Core.Bool.{Bool, true, false}
 use mathlib.Core.List.{List, [], _∷_, List·Memᴰ, List·Memᴰ·head, List·Memᴰ·tail}
 use native.Mathlib.Omega.{arith}
 use lib.ListN.{length, take}
-use borrow.Author.Tests.{eqb-true, leb-true, ltb-true}
+use borrow.Author.Tests.{eqb-true, ltb-true}
 use Rattle.laws.specs.Choice.{if_then_else_, _=?_, _<?_}
 use Rattle.laws.proofs.Cases.{if-ind, and-l, and-r}
 use Rattle.field.specs.Sheet.{ownBytes}
@@ -15,7 +15,7 @@ use Rattle.field.specs.declared.record.Field.{Field}
 use Rattle.cmf.specs.Limits.{prologBytes}
 use Rattle.cmf.specs.Readers.{headAt, componentAt}
 use Rattle.cmf.specs.Places.{componentsOf, lineAt, lineCount}
-use Rattle.session.specs.Fits.{cursorHead, levelFits, levelsFit, tablesFit, sessionFits}
+use Rattle.session.specs.Fits.{cursorHead, levelsFit, tablesFit, sessionFits}
 use Rattle.session.specs.declared.session.Level.{Level}
 use Rattle.session.specs.declared.session.Mode.{Mode}
 use Rattle.session.specs.declared.session.Mode.the-variants as mode
@@ -27,31 +27,23 @@ use Rattle.picture.proofs.Knowing.{line-next}
 use Rattle.picture.proofs.Filling.{shape-of, length-picture}
 use Rattle.handset.specs.Draw.{drawRefusal, drawCursor, drawnPicture}
 use Rattle.handset.proofs.Drawing.{Granted, granted, shape-fits, drawn-cursor}
+use Rattle.promises.proofs.Fitting.{Shows, level-true}
 use Rattle.promises.specs.Pictures.{OnShownLine, AgreeWhereShown, DataCell, DrawPromises}
 
 -- ---- the edit cursor
 
--- the cursor line is within the rows shown
-record Within (rows : ℕ) (l : Level) : Type 0 where
-  low : l .first ≤ l .cursor
-  high : l .cursor < l .first + rows
+-- the cursor line of the shown table is among the rows
+here-shown : (im : List ℕ) (lines : ℕ) (ls : List Level) (t : ℕ) (here : Level) → levelsFit im lines t ls here ≡ true
+    → Shows im (lines - 1) (here .table .0) here
+unfolding levelsFit
+here-shown im lines [] t here h =
+    let x = level-true im lines t here h in subst (λ (u : ℕ). Shows im (lines - 1) u here) (sym (x .table)) x
+here-shown im lines (l ∷ ls) t here h = here-shown im lines ls (cursorHead im l .table) here (and-r _ _ (and-r _ _ h))
 
-levels-within : (im : List ℕ) (lines : ℕ) (ls : List Level) (t : ℕ) (here : Level) → levelsFit im lines t ls here ≡ true
-    → Within (lines - 1) here
-unfolding levelsFit levelFits
-levels-within im lines [] t here h =
-    let w = and-r _ _ (and-r _ _ h) in
-    record {
-      low = leb-true (here .first) (here .cursor) (and-l _ _ w);
-      high = ltb-true (here .cursor) (here .first + (lines - 1)) (and-r _ _ w);
-    }
-levels-within im lines (l ∷ ls) t here h =
-    levels-within im lines ls (cursorHead im l .table) here (and-r _ _ (and-r _ _ h))
-
-session-within : (im : List ℕ) (s : Session) → sessionFits im s ≡ true → Within (s .lines - 1) (s .here)
+session-shown : (im : List ℕ) (s : Session) → sessionFits im s ≡ true → Shows im (s .lines - 1) (s .here .table .0) (s .here)
 unfolding sessionFits tablesFit
-session-within im s h =
-    levels-within im (s .lines) (take (s .outer) (s .above)) prologBytes (s .here) (and-r _ _ (and-l _ _ (and-r _ _ h)))
+session-shown im s h =
+    here-shown im (s .lines) (take (s .outer) (s .above)) prologBytes (s .here) (and-r _ _ (and-l _ _ (and-r _ _ h)))
 
 -- a data cell is not past the last one
 cell-below : (im : List ℕ) (s : Session) (p : ℕ) → dataCell im s p ≤ s .columns - 3
@@ -66,7 +58,7 @@ module _ (im : List ℕ) (s : Session) (fits : sessionFits im s ≡ true) where
   inside (mode.Visit p) row column h =
       let r : 1 + s .here .cursor - s .here .first ≡ row = cc in
       let c : 1 + dataCell im s (p .0) ≡ column = cc in
-      let w = session-within im s fits in
+      let w = session-shown im s fits in
       let z = shape-of (s .columns) (s .lines) (shape-fits im s fits) in
       let b = cell-below im s (p .0) in
       record {

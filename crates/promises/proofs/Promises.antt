@@ -47,7 +47,8 @@ use Rattle.journal.proofs.Sittings.{formed, at-default, sheet-holds-journal, de
 use Rattle.journal.proofs.Beside.{played-apart}
 use Rattle.protected.proofs.Protected.{only-after-its-digits, every-protected-line-was-opened-by-its-digits}
 use Rattle.promises.proofs.Unrefused.{never-refused}
-use Rattle.promises.proofs.Steps.{told-apart, event-promises}
+use Rattle.promises.proofs.Answering.{told-apart}
+use Rattle.promises.proofs.Steps.{event-promises}
 use Rattle.promises.proofs.Pictures.{draw-promises}
 use Rattle.promises.proofs.Starred.{starred-as-listed}
 

@@ -6,8 +6,8 @@ use mathlib.Core.Bool.{Bool, true, false, false≢true}
 use mathlib.Core.List.{List, [], _∷_}
 use native.Mathlib.Omega.{arith}
 use lib.ListN.{length, set, take, length-take}
-use borrow.Author.Tests.{eqb-true, eqb-false, leb-true, ltb-true, ltb-false}
-use Rattle.laws.specs.Choice.{if_then_else_, _=?_, _<?_}
+use borrow.Author.Tests.{eqb-true, leb-true, ltb-true, ltb-false}
+use Rattle.laws.specs.Choice.{if_then_else_, _=?_}
 use Rattle.laws.specs.Bytes.{byteAt}
 use Rattle.laws.proofs.Cases.{if-ind, if-true, if-false, if-eq, by-test, and-l, and-r}
 use Rattle.field.specs.declared.kind.ImagePlace.{ImagePlace}
@@ -16,18 +16,17 @@ use Rattle.field.specs.declared.work.Work.{Work}
 use Rattle.keys.specs.declared.press.Outcome.{Outcome}
 use Rattle.keys.specs.declared.press.Outcome.the-variants as outcome
 use Rattle.cmf.specs.Limits.{prologBytes, deepestTable}
-use Rattle.cmf.specs.Readers.{headAt, componentAt}
-use Rattle.cmf.specs.declared.component.Component.{Component}
+use Rattle.cmf.specs.Readers.{headAt}
 use Rattle.acceptance.proofs.Acceptance.{accepted-exactly-when-well-formed}
 use Rattle.acceptance.proofs.Reach.{Reached, no-levels, top-reached}
 use Rattle.session.specs.Events.{lastDigitKey, second}
-use Rattle.session.specs.Steps.{finishedFrom, told, taken, flash, isFlash, withIdle}
-use Rattle.session.specs.Fits.{cursorLine, cursorHead, levelsFit, tablesFit, modeFits, visitFits, entryFits, sessionFits}
+use Rattle.session.specs.Steps.{told, taken, flash, isFlash, withIdle}
+use Rattle.session.specs.Fits.{cursorLine, cursorHead, levelsFit, tablesFit, modeFits, entryFits, sessionFits}
 use Rattle.session.specs.Seconds.{browseSecond, entrySecond}
 use Rattle.session.specs.Browsing.{upStep, downStep, leftStep, descended, rightStep, enterStep, browseStep}
 use Rattle.session.specs.Passwords.{rightTo, entered, lastDigit, digitStep, entryStep}
 use Rattle.session.specs.Visits.{movedOn, followed, followedSheet, visitStep, visitSheet}
-use Rattle.session.specs.Event.{stepIn, sheetIn, stepOf, sheetOf}
+use Rattle.session.specs.Event.{stepIn, sheetIn, stepOf}
 use Rattle.session.specs.declared.session.Level.{Level}
 use Rattle.session.specs.declared.session.Mode.{Mode}
 use Rattle.session.specs.declared.session.Mode.the-variants as mode
@@ -35,12 +34,12 @@ use Rattle.session.specs.declared.session.Session.{Session}
 use Rattle.session.specs.declared.step.Answer.{Answer}
 use Rattle.session.specs.declared.step.Answer.the-variants as answer
 use Rattle.session.specs.declared.step.Stepped.{Stepped}
-use Rattle.session.proofs.Answers.{Near, told-once}
-use Rattle.handset.specs.Event.{eventRefusal, refusedWith, eventStep, eventTold, eventSheet}
-use Rattle.handset.proofs.Stepping.{refused-step, refused-sheet, stepped, stepped-sheet, EventGranted, event-granted}
+use Rattle.handset.specs.Event.{eventRefusal, eventStep, eventTold, eventSheet}
+use Rattle.handset.proofs.Stepping.{stepped, EventGranted, event-granted}
 use Rattle.journal.proofs.Reached.{level-in}
 use Rattle.protected.proofs.Passwords.{head-guarded}
 use Rattle.promises.specs.Steps.{Unchanged, EventPromises}
+use Rattle.promises.proofs.Answering.{by-refusal}
 use Rattle.promises.proofs.Unrefused.{sheet-stays-long}
 
 -- ---- tables end at the eighth
@@ -261,80 +260,21 @@ told-flash (answer.Finished p) h = absurd (omega arith)
 told-flash (answer.Fired p) h = absurd (omega arith)
 told-flash (answer.Refused k) h = absurd (omega arith)
 
--- a component that holds a field begins in the image
-holds-inside : (im : List ℕ) (p : ℕ) → componentAt im p .holds ≡ true → p < length im
-unfolding componentAt
-holds-inside im p =
-    if-ind (λ (c : Component). c .holds ≡ true → p < length im) (p <? length im) (λ h _. ltb-true p (length im) h)
-    (λ _ h. absurd (false≢true h))
-
--- a result whose answer has a place below 65,536, or none
-record Placed (r : Stepped) : Type 0 where
-  near : Near (r .answer)
-
-by-placed : (t : Bool) {x y : Stepped} → (t ≡ true → Placed x) → (t ≡ false → Placed y) → Placed (if t then x else y)
-by-placed t f g = if-ind Placed t f g
-
-taken-placed : (s : Session) → Placed (taken s)
-taken-placed s = record { near = tt }
-
-flash-placed : (s : Session) → Placed (flash s)
-flash-placed s = record { near = tt }
-
--- the answers of a visit name its own place
-followed-placed : (im sheet : List ℕ) (s : Session) (p : ImagePlace) (f : Field) (w : Work) (o : Outcome) → p .0 < finishedFrom
-    → Placed (followed im sheet s p f w o)
-unfolding followed
-followed-placed im sheet s p f w outcome.Taken h = taken-placed _
-followed-placed im sheet s p f w outcome.Flash h = flash-placed _
-followed-placed im sheet s p f w outcome.NextPart h = taken-placed _
-followed-placed im sheet s p f w outcome.Done h = record { near = h }
-followed-placed im sheet s p f w outcome.Fired h = record { near = h }
-followed-placed im sheet s p f w outcome.Passed h = taken-placed _
-
--- which is in the image, where the session fits
-visit-inside : (im : List ℕ) (s : Session) (p : ImagePlace) → sessionFits im s ≡ true → s .mode ≡ mode.Visit p → p .0 < length im
-unfolding sessionFits modeFits visitFits
-visit-inside im s p h m =
-    let v : modeFits im s (mode.Visit p) ≡ true = rw m at (and-r _ _ (and-r _ _ h)) in
-    holds-inside im (p .0) (and-l _ _ (and-r _ _ v))
-
-mode-placed : (im sheet : List ℕ) (s : Session) (e : ℕ) (m : Mode) → ((p : ImagePlace) → m ≡ mode.Visit p → p .0 < finishedFrom)
-    → Placed (stepIn im sheet s e m)
-unfolding stepIn browseStep upStep downStep leftStep descended rightStep enterStep browseSecond visitStep entryStep entrySecond digitStep lastDigit
-mode-placed im sheet s e mode.Browsing h = search (by-placed, taken-placed, flash-placed) depth 30
-mode-placed im sheet s e (mode.Visit p) h =
-    by-placed _ (λ _. taken-placed s) (λ _. followed-placed im sheet _ p _ _ _ (h p refl))
-mode-placed im sheet s e (mode.Password k) h = search (by-placed, taken-placed, flash-placed) depth 30
-
 -- ---- Event
 
 module _ (im sheet : List ℕ) (s : Session) (e : ℕ) where
-  abbrev refusal : ℕ
-  refusal = eventRefusal im (length sheet) s e
-
-  -- the step of its mode, or a refusal
-  by-refusal : (P : Stepped → List ℕ → Type 0) → (refusal ≡ 0 → P (stepOf im sheet s e) (sheetOf im sheet s e))
-      → ((refusal ≡ 0 → ⊥) → P (refusedWith s refusal) sheet) → P (eventStep im sheet s e) (eventSheet im sheet s e)
-  by-refusal P f g =
-      by-test (refusal =? 0)
-      (λ h. let z = eqb-true refusal 0 h in
-      rw (← stepped im sheet s e _ refl z, ← stepped-sheet im sheet s e _ refl z) (f z))
-      (λ h. let z = eqb-false refusal 0 h in
-      rw (← refused-step im sheet s e _ refl z, ← refused-sheet im sheet s e _ refl z) (g z))
-
   -- what a step that is not refused keeps
-  step-kept : refusal ≡ 0 → Kept im s e (stepOf im sheet s e)
+  step-kept : eventRefusal im (length sheet) s e ≡ 0 → Kept im s e (stepOf im sheet s e)
   step-kept h = mode-kept im sheet s e (event-granted im (length sheet) s e h) (s .mode) refl
 
   event-flash : isFlash (eventStep im sheet s e .answer) ≡ true → Unchanged im s e (eventStep im sheet s e .session)
   event-flash =
-      by-refusal (λ (r : Stepped) (x : List ℕ). isFlash (r .answer) ≡ true → Unchanged im s e (r .session))
+      by-refusal im sheet s e (λ (r : Stepped) (x : List ℕ). isFlash (r .answer) ≡ true → Unchanged im s e (r .session))
       (λ h. step-kept h .flash) (λ _ h. absurd (false≢true h))
 
   event-writes : ((p : ImagePlace) → eventStep im sheet s e .answer ≡ answer.Finished p → ⊥) → eventSheet im sheet s e ≡ sheet
   event-writes =
-      by-refusal (λ (r : Stepped) (x : List ℕ). ((p : ImagePlace) → r .answer ≡ answer.Finished p → ⊥) → x ≡ sheet)
+      by-refusal im sheet s e (λ (r : Stepped) (x : List ℕ). ((p : ImagePlace) → r .answer ≡ answer.Finished p → ⊥) → x ≡ sheet)
       (λ _. mode-writes im sheet s e (s .mode)) (λ _ _. refl)
 
   visit-waits : (m : Mode) (p : ImagePlace) → m ≡ mode.Visit p → e ≡ second → stepIn im sheet s e m ≡ taken s
@@ -348,16 +288,6 @@ module _ (im sheet : List ℕ) (s : Session) (e : ℕ) where
   second-writes (mode.Visit p) q = if-eq e second _ _ q
   second-writes (mode.Password n) q = refl
 
-  -- the place that an answer names is below 65,536
-  pub event-near : Near (eventStep im sheet s e .answer)
-  event-near =
-      by-refusal (λ (r : Stepped) (x : List ℕ). Near (r .answer))
-      (λ h. let g = event-granted im (length sheet) s e h in
-      let w = accepted-exactly-when-well-formed im (length sheet) .0 (g .granted .accepted) in
-      mode-placed im sheet s e (s .mode)
-      (λ p m. omega (arith, visit-inside im s p (g .granted .fits) m, w .prolog .most)) .near)
-      (λ _. tt)
-
   pub event-promises : EventPromises im sheet s e
   unfolding eventTold
   event-promises = record {
@@ -365,14 +295,8 @@ module _ (im sheet : List ℕ) (s : Session) (e : ℕ) where
     writes = λ n. event-writes (λ p a. n p (ap told a));
     flash-sheet = λ h. event-writes (λ p a. absurd (false≢true (sym (ap isFlash a) ∙ told-flash _ h)));
     sheet-length =
-        by-refusal (λ (r : Stepped) (x : List ℕ). length x ≡ length sheet) (λ _. sheet-stays-long im sheet s e) (λ _. refl);
+        by-refusal im sheet s e (λ (r : Stepped) (x : List ℕ). length x ≡ length sheet) (λ _. sheet-stays-long im sheet s e) (λ _. refl);
     wakes = λ h n. rw (← stepped im sheet s e _ refl h) (step-kept h .idle n);
     visit-second = λ h q p m. sym (stepped im sheet s e _ refl h) ∙ visit-waits (s .mode) p m q;
-    second-sheet = λ q. by-refusal (λ (r : Stepped) (x : List ℕ). x ≡ sheet) (λ _. second-writes (s .mode) q) (λ _. refl);
+    second-sheet = λ q. by-refusal im sheet s e (λ (r : Stepped) (x : List ℕ). x ≡ sheet) (λ _. second-writes (s .mode) q) (λ _. refl);
   }
-
--- the number of an answer settles it
-pub told-apart : (im sheet : List ℕ) (s : Session) (e : ℕ) (im′ sheet′ : List ℕ) (s′ : Session) (e′ : ℕ)
-    → eventTold im sheet s e ≡ eventTold im′ sheet′ s′ e′ → eventStep im sheet s e .answer ≡ eventStep im′ sheet′ s′ e′ .answer
-unfolding eventTold
-told-apart im sheet s e im′ sheet′ s′ e′ h = told-once _ _ (event-near im sheet s e) (event-near im′ sheet′ s′ e′) h

@@ -2,18 +2,17 @@
 -- looks at no more of the sheet than its length.
 use Prim.Native.Nat.{ℕ, _*_, _≤_}
 use mathlib.Core.Path.{_≡_, refl, sym, ap, _∙_}
-use mathlib.Core.Bool.{Bool, true, false}
+use mathlib.Core.Bool.{true, false}
 use mathlib.Core.List.{List, [], _∷_}
 use native.Mathlib.Omega.{arith}
 use lib.ListN.{length}
 use borrow.Author.Tests.{eq-eqb, le-leb, lt-leb}
-use Rattle.laws.specs.Choice.{if_then_else_, _=?_}
+use Rattle.laws.specs.Choice.{_=?_}
 use Rattle.laws.proofs.Cases.{if-ind, if-eq, and-l}
 use Rattle.laws.proofs.Frame.{length-put}
 use Rattle.field.specs.Values.{bytesOf}
 use Rattle.field.specs.Cells.{finished}
 use Rattle.field.specs.Sheet.{defaultWritten, finishedIn}
-use Rattle.field.specs.declared.kind.ImagePlace.{ImagePlace}
 use Rattle.field.specs.declared.record.Field.{Field}
 use Rattle.field.specs.declared.work.Work.{Work}
 use Rattle.keys.specs.declared.press.Outcome.{Outcome}
@@ -26,11 +25,9 @@ use Rattle.acceptance.proofs.Acceptance.{accepted-exactly-when-well-formed}
 use Rattle.session.specs.Session.{opened}
 use Rattle.session.specs.Events.{second}
 use Rattle.session.specs.Fits.{shapeFits, sessionFits}
-use Rattle.session.specs.Steps.{taken, flash, withIdle, isRefused}
-use Rattle.session.specs.Seconds.{browseSecond, entrySecond}
-use Rattle.session.specs.Browsing.{upStep, downStep, leftStep, descended, rightStep, enterStep, browseStep}
-use Rattle.session.specs.Passwords.{lastDigit, digitStep, entryStep}
-use Rattle.session.specs.Visits.{followed, followedSheet, visitStep, visitSheet}
+use Rattle.session.specs.Steps.{withIdle, isRefused}
+use Rattle.session.specs.Browsing.{browseStep}
+use Rattle.session.specs.Visits.{followedSheet, visitSheet}
 use Rattle.session.specs.Event.{stepIn, sheetIn, stepOf, sheetOf}
 use Rattle.session.specs.declared.session.Mode.{Mode}
 use Rattle.session.specs.declared.session.Mode.the-variants as mode
@@ -48,6 +45,7 @@ use Rattle.promises.specs.Unrefused.{NothingRefused}
 use Rattle.promises.proofs.Fitting.{Sized, Good, good-of, fits-of, Keeps, by-keeps, idle-good, up-keeps, down-keeps, left-keeps, second-keeps}
 use Rattle.promises.proofs.FittingEntries.{right-keeps, entry-keeps}
 use Rattle.promises.proofs.FittingVisits.{enter-keeps, visit-keeps}
+use Rattle.promises.proofs.Answering.{mode-plain}
 
 -- what a step keeps: the session fits, for the same display
 pub record StillFits (im : List ℕ) (s z : Session) : Type 0 where
@@ -91,39 +89,6 @@ step-fits im sheet s e a h z =
     let w = accepted-exactly-when-well-formed im (length sheet) .0 a in
     let g = mode-keeps im (s .columns) (s .lines) shape (length sheet) w s (good-of im s z h) sheet e (s .mode) refl .good in
     record { fits = fits-of im _ _ _ shape g; sized = g .sized; columns = g .columns; lines = g .lines }
-
--- ---- the answer to an event
-
--- a step whose answer is no refusal
-record Answers (r : Stepped) : Type 0 where
-  answers : isRefused (r .answer) ≡ false
-
--- a choice of steps, and the two answers of browsing and of an entry
-by-answers : (t : Bool) {x y : Stepped} → (t ≡ true → Answers x) → (t ≡ false → Answers y) → Answers (if t then x else y)
-by-answers t f g = if-ind Answers t f g
-
-taken-answers : (s : Session) → Answers (taken s)
-taken-answers s = record { answers = refl }
-
-flash-answers : (s : Session) → Answers (flash s)
-flash-answers s = record { answers = refl }
-
--- a key in a visit, whatever its outcome
-followed-answers : (im sheet : List ℕ) (s : Session) (p : ImagePlace) (f : Field) (v : Work) (o : Outcome) → Answers (followed im sheet s p f v o)
-unfolding followed
-followed-answers im sheet s p f v outcome.Taken = record { answers = refl }
-followed-answers im sheet s p f v outcome.Flash = record { answers = refl }
-followed-answers im sheet s p f v outcome.NextPart = record { answers = refl }
-followed-answers im sheet s p f v outcome.Done = record { answers = refl }
-followed-answers im sheet s p f v outcome.Fired = record { answers = refl }
-followed-answers im sheet s p f v outcome.Passed = record { answers = refl }
-
--- the step of every mode
-mode-answers : (im sheet : List ℕ) (s : Session) (e : ℕ) (m : Mode) → Answers (stepIn im sheet s e m)
-unfolding stepIn browseStep upStep downStep leftStep rightStep descended enterStep browseSecond entryStep entrySecond digitStep lastDigit visitStep
-mode-answers im sheet s e mode.Browsing = search (by-answers, taken-answers, flash-answers) depth 30
-mode-answers im sheet s e (mode.Visit p) = search (by-answers, taken-answers, followed-answers) depth 10
-mode-answers im sheet s e (mode.Password k) = search (by-answers, taken-answers, flash-answers) depth 30
 
 -- ---- the sheet after an event
 
@@ -204,7 +169,7 @@ module _ (im : List ℕ) (c l : ℕ) (shape : shapeFits c l ≡ true) (n : ℕ) 
     unfolding answerTo
     event-answers e k =
         ap (λ (r : Stepped). isRefused (r .answer)) (sym (stepped im (t .sheet) (t .session) e _ refl (event-passes e k)))
-        ∙ mode-answers im (t .sheet) (t .session) e (t .session .mode) .answers
+        ∙ mode-plain im (t .sheet) (t .session) e (t .session .mode) .given
 
     -- all together
     nothing-refused : NothingRefused im c l t
