@@ -33,6 +33,7 @@ use Rattle.handset.specs.Open.{openRefusal, openAnswer, openSheet}
 use Rattle.handset.specs.OptionText.{reached, itemsIn, textRefusal, optionText}
 use Rattle.handset.specs.Draw.{drawRefusal, drawCursor, drawnPicture}
 use Rattle.handset.proofs.Ordering.{first-given, next-given, holding, failing, none-before, none-unless}
+use Rattle.handset.proofs.Drawing.{refused-cursor, refused-picture, drawn-cursor, drawn-picture}
 use Rattle.handset.proofs.Stepping.{refused-step, refused-sheet, stepped, stepped-sheet}
 use Rattle.handset.proofs.Defaults.{all, others-stay}
 use Rattle.handset.proofs.Items.{item-is}
@@ -103,21 +104,29 @@ text-order im sheet place item = one-test (refusalOf im sheet) 14 _
 pub demand-1 : (im : List ℕ) → Demand1 im
 unfolding openAnswer openSheet eventTold drawCursor drawnPicture optionText cursor.told
 demand-1 im = record {
-  number = refused-exactly-when im;
-  open-number = open-order im;
-  event-number = event-order im;
-  draw-number = draw-order im;
-  text-number = text-order im;
-  open-tells = λ sheet columns lines. refl;
-  open-closes = λ sheet columns lines h. if-ne (openRefusal im sheet columns lines) 0 _ _ h;
-  closed-unfit = closed-never-fits im;
-  open-keeps = λ sheet columns lines h. if-ne (openRefusal im (length sheet) columns lines) 0 _ _ h;
-  event-tells = λ sheet s e h. ap (λ (r : Stepped). told (r .answer)) (sym (refused-step im sheet s e _ refl h));
-  event-returns = λ sheet s e h. sym (refused-step im sheet s e _ refl h);
-  event-keeps = λ sheet s e h. sym (refused-sheet im sheet s e _ refl h);
-  draw-nowhere = λ sheet s n h. if-ne (drawRefusal im sheet s n) 0 _ _ h;
-  draw-keeps = λ sheet s picture h. if-ne (drawRefusal im (length sheet) s (length picture)) 0 _ _ h;
-  text-empty = λ sheet place item h. if-ne (textRefusal im sheet place item) 0 _ _ h;
+  numbers = record {
+    of-image = refused-exactly-when im;
+    of-open = open-order im;
+    of-event = event-order im;
+    of-draw = draw-order im;
+    of-text = text-order im;
+  };
+  refused-open = λ sheet columns lines h. record {
+    tells = refl;
+    closes = if-ne (openRefusal im (length sheet) columns lines) 0 _ _ h;
+    never-fits = closed-never-fits im;
+    keeps = if-ne (openRefusal im (length sheet) columns lines) 0 _ _ h;
+  };
+  refused-event = λ sheet s e h. record {
+    returns = sym (refused-step im sheet s e _ refl h);
+    tells = ap (λ (r : Stepped). told (r .answer)) (sym (refused-step im sheet s e _ refl h));
+    keeps = sym (refused-sheet im sheet s e _ refl h);
+  };
+  refused-draw = λ sheet s picture h. record {
+    nowhere = sym (refused-cursor im sheet s picture _ refl h);
+    keeps = sym (refused-picture im sheet s picture _ refl h);
+  };
+  refused-text = λ sheet place item h. if-ne (textRefusal im sheet place item) 0 _ _ h;
 }
 
 -- every field of the derivation is read at its place, so that `IsField` misses none
@@ -202,28 +211,32 @@ cursor-once (At r c) Nowhere h = let z : _≡_ {A = ℕ} 0 1 = cc in absurd (ome
 cursor-once (At r c) (At q d) h = cc
 
 pub demand-2 : (im : List ℕ) → Demand2 im
-unfolding begunWith openAnswer eventTold drawCursor drawnPicture
+unfolding begunWith openAnswer eventTold
 demand-2 im = record {
-  accepted = accepted-exactly-when-well-formed im;
-  open-accepts = open-well im;
-  every-field = field-stands im;
-  opens = λ sheet columns lines h. if-eq (openRefusal im sheet columns lines) 0 _ _ h;
-  defaults = at-default im;
-  nothing-else = sheet-beside im;
-  steps = λ sheet s e h. sym (stepped im sheet s e _ refl h);
-  answers = λ sheet s e h. ap (λ (r : Stepped). told (r .answer)) (sym (stepped im sheet s e _ refl h));
-  stores = λ sheet s e h. sym (stepped-sheet im sheet s e _ refl h);
-  told-apart = told-apart im;
+  accepts = record { accepted = accepted-exactly-when-well-formed im; opens = open-well im; every-field = field-stands im };
+  opens = λ sheet columns lines h. record {
+    tells = h;
+    shows = if-eq (openRefusal im (length sheet) columns lines) 0 _ _ h;
+    defaults = at-default im sheet columns lines h;
+    nothing-else = sheet-beside im sheet columns lines h;
+  };
+  steps = λ sheet s e h. record {
+    steps = sym (stepped im sheet s e _ refl h);
+    tells = ap (λ (r : Stepped). told (r .answer)) (sym (stepped im sheet s e _ refl h));
+    stores = sym (stepped-sheet im sheet s e _ refl h);
+  };
+  draws = λ sheet s picture h. record {
+    draws = sym (drawn-picture im sheet s picture _ refl h);
+    points = sym (drawn-cursor im sheet s picture _ refl h);
+  };
+  texts = record { given = given-text im; only = only-text im; own = item-is im };
+  told-apart = record { events = told-apart; cursors = cursor-once };
   every-event = event-promises im;
-  draws = λ sheet s picture h. if-eq (drawRefusal im (length sheet) s (length picture)) 0 _ _ h;
-  points = λ sheet s n h. if-eq (drawRefusal im sheet s n) 0 _ _ h;
-  cursors-apart = cursor-once;
   every-draw = draw-promises im;
-  text-given = given-text im;
-  text-only = only-text im;
-  texts = item-is im;
-  protected = only-after-its-digits im;
-  unlocked = every-protected-line-was-opened-by-its-digits im;
+  protected = λ sheet columns lines es. record {
+    opens = only-after-its-digits im sheet columns lines es;
+    opened = every-protected-line-was-opened-by-its-digits im sheet columns lines es;
+  };
 }
 
 -- C: two candidates with the same finished visits at a field, in whatever order they went from field to field
