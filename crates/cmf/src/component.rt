@@ -12,6 +12,7 @@ ghost use Rattle.field.specs.Values.{valueOf, valueAt};
 ghost use Rattle.cmf.specs.Readers.{tagBit, fixedBytes, textCount, given, counterOf, kindAt, sheetPlaceAt, fieldBy, componentRefused, componentRead, laidOut, componentBy, componentAt};
 use crate::image::Image;
 use crate::image::word_in;
+use crate::text::ITEMS;
 use crate::text::Run;
 use crate::text::read_texts;
 use field::kind::CounterSettings;
@@ -361,9 +362,9 @@ fn option_by(image: &[u8], at: usize, tag: u8) -> Component
     requires { ⌜ at < length (now image) ⌝ }
     ensures { λ r. ⌜ r ≡ componentBy (now (image .entry)) at 0x14 tag ⌝ }
 {
-    let whole = room(image, at, 10);
+    let whole = room(image, at, ITEMS);
     if whole {
-        let t = read_texts(image, image[at + 7] as usize, at + 10);
+        let t = read_texts(image, image[at + 7] as usize, at + ITEMS);
         if t.fits {
             let given = option_given(image, at, t);
             if given {

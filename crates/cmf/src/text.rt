@@ -3,6 +3,8 @@ ghost use mathlib.Core.Path.{_≡_};
 ghost use mathlib.Core.Bool.{false};
 ghost use Rattle.cmf.specs.Readers.{runOf, textsFrom, allDigits, passwordFits, itemFrom, itemPlace, textBytes};
 ghost use Prim.Native.Nat.{_+_, _<_, max};
+ghost use lib.ListN.{length};
+ghost use Rattle.laws.specs.Choice.{if_then_else_, _<?_};
 use crate::image::Image;
 use laws::byte_at;
 use laws::room;
@@ -98,8 +100,11 @@ pub fn password_fits(image: &[u8], at: usize) -> bool
     all_digits(image, n, at + 1)
 }
 
+// The bytes of an option before its items.
+pub const ITEMS: usize = 10;
+
 // The place of the k-th of the texts from a place on.
-pub fn item_place(image: &[u8], k: usize, at: usize) -> usize
+fn item_from(image: &[u8], k: usize, at: usize) -> usize
     ensures { λ r. ⌜ r ≡ itemFrom (now (image .entry)) k at ⌝ }
 {
     let mut place = at;
@@ -112,6 +117,16 @@ pub fn item_place(image: &[u8], k: usize, at: usize) -> usize
         left = left - 1;
     }
     place
+}
+
+// Where an item of the option at a place begins, its length byte first; 0 for a place beyond the image.
+pub fn item_place(image: &[u8], place: usize, item: usize) -> usize
+    ensures { λ r. ⌜ r ≡ if place <? length (now (image .entry)) then itemPlace (now (image .entry)) place item else 0 ⌝ }
+{
+    if place < image.len() {
+        return item_from(image, item, place + ITEMS);
+    }
+    0
 }
 
 // The bytes of the text at a place.
@@ -133,7 +148,7 @@ pub fn item_bytes<'a>(image: &'a [u8], place: usize, item: usize) -> &'a [u8]
     ensures { λ r. ⌜ now r ≡ textBytes (now (image .entry)) (itemPlace (now (image .entry)) place item) ⌝ }
 {
     if place < image.len() {
-        return text_bytes(image, item_place(image, item, place + 10));
+        return text_bytes(image, item_place(image, place, item));
     }
     &image[0..0]
 }

@@ -7,7 +7,7 @@ use Rattle.laws.specs.Choice.{if_then_else_, _and_, _=?_, _<?_, _≤?_}
 use Rattle.laws.specs.Parts.{partAt}
 use Rattle.laws.specs.Overwrite.{fit}
 use Rattle.laws.specs.Digits.{digitsOf, numberFrom}
-use Rattle.field.specs.Formats.{numeralOf, bitsOf}
+use Rattle.field.specs.Formats.{maxBits, numeralOf, bitsOf}
 use Rattle.field.specs.Table.{profileOf, cellOf}
 use Rattle.field.specs.Values.{numberOf, valueFrom}
 use Rattle.field.specs.declared.numeral.Numeral.{Numeral}
@@ -113,9 +113,13 @@ legal k cs = legalTo k cs (profileOf k .cells)
 unfoldable pub inRange : Kind → ℕ → Bool
 inRange k x = inSpan k x and legal k (cellsOf k x)
 
+-- a working copy has as many cells as a switch can have
+abbrev pub mostCells : ℕ
+mostCells = maxBits
+
 -- a working copy at its first cell; cells that the kind has not are 0
 unfoldable pub workOf : List ℕ → Work
-workOf cs = record { cells = fit 0 32 cs; at = 0 }
+workOf cs = record { cells = fit 0 mostCells cs; at = 0 }
 
 -- 01, Fields: a visit starts from the sheet's value, or from the default if that is out of range
 unfoldable pub started : Kind → Value → Value → Work

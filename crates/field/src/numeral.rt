@@ -234,7 +234,7 @@ impl Numeral {
         ensures { λ r. ⌜ r ≡ workOf (inDigits self x) ⌝ }
     {
         let mut blank = Work {
-            cells: [0; 32],
+            cells: [0; Work::CELLS],
             at: 0,
         };
         if self.signs == 0 {

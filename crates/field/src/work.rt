@@ -15,7 +15,7 @@ use crate::value::Value;
 
 // The cells of a visit (a visit is the paper's term for one editing of a field), and the chosen cell.
 pub struct Work {
-    pub cells: [u32; 32],
+    pub cells: [u32; Work::CELLS],
     pub at: u8,
 }
 
@@ -36,7 +36,7 @@ fn third(long: bool, x: u32) -> u32
 fn three(a: u32, b: u32, c: u32) -> Work
     ensures { λ r. ⌜ r ≡ workOf (a ∷ b ∷ c ∷ []) ⌝ }
 {
-    let mut cells = [0; 32];
+    let mut cells = [0; Work::CELLS];
     cells[0] = a;
     cells[1] = b;
     cells[2] = c;
@@ -44,6 +44,9 @@ fn three(a: u32, b: u32, c: u32) -> Work
 }
 
 impl Work {
+    // As many as a switch can have.
+    pub const CELLS: usize = 32;
+
     // The cells that show a number, the first one chosen.
     pub fn showing(kind: Kind, x: u32) -> Self
         ensures { λ r. ⌜ r ≡ workOf (cellsOf kind x) ⌝ }
@@ -62,11 +65,11 @@ impl Work {
         }
     }
 
-    // A cell, 0 past the 32nd.
+    // A cell, 0 past the last.
     pub fn cell(self, i: usize) -> u64
         ensures { λ r. ⌜ (r ≡ getD (self .cells) i 0) × (r < 4294967296) ⌝ }
     {
-        if i < 32 { self.cells[i] as u64 } else { 0 }
+        if i < Work::CELLS { self.cells[i] as u64 } else { 0 }
     }
 
     // The third byte of a time, where it has seconds.

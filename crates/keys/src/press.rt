@@ -54,7 +54,7 @@ fn with_chosen(mut w: Work, x: u32) -> Work
     ensures { λ r. ⌜ r ≡ withChosen w x ⌝ }
 {
     let at = w.at as usize;
-    if at < 32 {
+    if at < Work::CELLS {
         w.cells[at] = x;
     }
     w

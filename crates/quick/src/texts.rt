@@ -8,6 +8,7 @@ ghost use Rattle.laws.specs.Bytes.{byteAt};
 ghost use Rattle.field.specs.Settings.{settingsFit};
 ghost use Rattle.cmf.specs.Layouts.{Texts, Component, switchAt, optionAt};
 use crate::heads::word_in;
+use cmf::text::ITEMS;
 use field::kind::Kind;
 
 fn longer(a: usize, b: usize) -> usize
@@ -53,7 +54,7 @@ pub(crate) fn option_end(image: &[u8], at: usize) -> usize
     if image.len() < end {
         return 0;
     }
-    let longest = longest_of(image, at + 10, end, items);
+    let longest = longest_of(image, at + ITEMS, end, items);
     if longest == image[at + 8] as usize + 1 {
         return end;
     }

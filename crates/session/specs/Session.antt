@@ -2,6 +2,7 @@
 use Prim.Native.Nat.{ℕ}
 use mathlib.Core.List.{[], _∷_}
 use lib.ListN.{replicate}
+use Rattle.field.specs.Cells.{mostCells}
 use Rattle.field.specs.declared.work.Work.{Work}
 use Rattle.cmf.specs.Limits.{prologBytes}
 use Rattle.session.specs.declared.session.Level.{Level}
@@ -16,7 +17,7 @@ noLevel = level 0 0 0
 
 -- the working copy while there is no visit; fits does not look at it
 abbrev pub blank : Work
-blank = record { cells = replicate 32 0; at = 0 }
+blank = record { cells = replicate mostCells 0; at = 0 }
 
 -- 01, The four calls: top table at line 1 (cursor 0 here), browsing, idle count 0
 unfoldable pub opened : ℕ → ℕ → Session

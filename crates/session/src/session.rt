@@ -89,7 +89,7 @@ impl Session {
             idle: 0,
             mode: Mode::Browsing,
             work: Work {
-                cells: [0; 32],
+                cells: [0; Work::CELLS],
                 at: 0,
             },
             typed: [0, 0, 0, 0, 0, 0, 0, 0],

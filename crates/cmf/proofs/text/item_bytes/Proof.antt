@@ -3,13 +3,11 @@ use lib.ListN.{length}
 use mathlib.Core.Path.{sym, _∙_}
 use Prim.Native.Nat.{_+_, _≤_}
 use native.Mathlib.Omega.{arith}
+use Rattle.laws.proofs.Cases.{if-lt}
 use Rattle.cmf.proofs.Turning.{items-out, text-out}
 use borrow.Author.Needs.{needs}
 use Rattle.cmf.proofs.text.item_bytes.Statement.{statement}
 use Rattle.cmf.proofs.text.item_bytes.Tie as tie
-
-add-item-place : tie.Need-add-item-place
-add-item-place c = search needs
 
 item-place-requires : tie.Need-item-place-requires
 item-place-requires c κs = search needs
@@ -18,7 +16,7 @@ text-bytes-requires : tie.Need-text-bytes-requires
 text-bytes-requires c κs = search needs
 
 returns : tie.Need-returns
-returns c = c .text-bytes .ensures ∙ rw (c .before .item-place .ensures)
+returns c = c .text-bytes .ensures ∙ rw (c .before .item-place .ensures ∙ if-lt _ _ _ _ (c .before .before .if1 .taken))
 
 sub-result : tie.Need-sub-result
 sub-result c = search needs
@@ -39,7 +37,6 @@ pub item-bytes-spec : {M : Type 1} → statement M
 item-bytes-spec =
     tie.close
     (tie.spec
-    add-item-place
     item-place-requires
     text-bytes-requires
     returns
