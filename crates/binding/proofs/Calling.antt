@@ -1,17 +1,15 @@
 -- The calls over bytes, one case at a time, over variables: what the call of `handset` answered, and what its contract then says.
-use Prim.Native.Nat.{ℕ, zero, suc, _+_, _*_, _≤_, _<_}
+use Prim.Native.Nat.{ℕ, _+_, _*_, _≤_, _<_}
 use mathlib.Core.Path.{_≡_, refl, sym, ap, _∙_}
 use mathlib.Core.Bool.{true, false, false≢true}
 use mathlib.Core.List.{List}
 use native.Mathlib.Omega.{arith}
 use native.Mathlib.Decide.{ℕ-discrete}
-use lib.ListN.{length, length-take}
+use lib.ListN.{length}
 use borrow.Author.Tests.{eq-eqb, ne-eqb, eqb-true}
-use Rattle.laws.specs.Choice.{_=?_, _<?_}
-use Rattle.laws.specs.Bytes.{byteAt}
+use Rattle.laws.specs.Choice.{_=?_}
 use Rattle.laws.proofs.Cases.{if-ind, if-eq, if-ne}
 use Rattle.acceptance.specs.Check.{refusalOf}
-use Rattle.cmf.specs.Readers.{itemFrom, itemPlace}
 use Rattle.session.specs.Session.{closed}
 use Rattle.session.specs.Fits.{shapeFits, sessionFits}
 use Rattle.session.specs.Event.{stepOf, sheetOf}
@@ -23,9 +21,10 @@ use Rattle.handset.specs.Refusals.{_before_, _unless_, sessionRefusal}
 use Rattle.handset.specs.Open.{openRefusal, openAnswer, openSheet}
 use Rattle.handset.specs.Event.{eventRefusal, eventStep, eventTold, eventSheet, refusedWith}
 use Rattle.handset.specs.Draw.{drawRefusal, drawCursor, drawnPicture}
-use Rattle.handset.specs.OptionText.{textRefusal, optionText}
+use Rattle.handset.specs.OptionText.{textRefusal, textPlace}
+use Rattle.handset.specs.declared.option.TextPlace.{TextPlace}
 use Rattle.handset.specs.declared.open.Opened.{Opened}
-use Rattle.handset.proofs.Items.{item-is}
+use Rattle.handset.proofs.Items.{shown-inside, shown-refusal}
 use Rattle.handset.proofs.Ordering.{first-given, next-given, holding, failing, none-before, Granted, session-granted}
 use Rattle.handset.proofs.Stepping.{event-granted, refused-step, refused-sheet, stepped, stepped-sheet}
 use Rattle.binding.specs.Layout.{sessionBytes, sessionIn, sessionFrom}
@@ -189,38 +188,23 @@ text-accepted : (im : List ℕ) (sheet place item : ℕ) → textRefusal im shee
 unfolding textRefusal
 text-accepted im sheet place item h = none-before _ _ h .0
 
--- texts come no earlier than the first
-from-on : (im : List ℕ) (k at : ℕ) → at ≤ itemFrom im k at
-unfolding itemFrom
-from-on im zero at = omega arith
-from-on im (suc k) at =
-    if-ind (λ (p : ℕ). at ≤ p) (at <? length im) (λ _. omega (arith, from-on im k (at + 1 + byteAt im at))) (λ _. omega arith)
+module _ (im : List ℕ) (sheet place item : ℕ) {t : TextPlace} (e : t ≡ textPlace im sheet place item) where
+  refusal-is : t .refusal ≡ textRefusal im sheet place item
+  refusal-is = shown-refusal im sheet place item e
 
--- what is known of an item that is given
-pub record Item (im : List ℕ) (place item : ℕ) (text : List ℕ) : Type 0 where
-  pub far : place + 10 ≤ itemPlace im place item
-  pub inside : itemPlace im place item < 32768
-  pub small : length text < 65536
+  -- all of a text that is given is in the image, which is short
+  pub text-near : t .refusal ≡ 0 → t .start .0 + t .length ≤ 32768
+  text-near z =
+      let s : length im ≤ 32768 = short im sheet (text-accepted im sheet place item (sym refusal-is ∙ z)) in
+      omega (arith, shown-inside im sheet place item e)
 
-module _ (im : List ℕ) (sheet place item k : ℕ) (q : k ≡ textRefusal im sheet place item) where
-  pub item-given : (text : List ℕ) → k ≡ 0 → text ≡ optionText im sheet place item → Item im place item text
-  item-given text z e =
-      let h = item-is im sheet place item (sym q ∙ z) in
-      let s : length im ≤ 32768 = short im sheet (text-accepted im sheet place item (sym q ∙ z)) in
-      record {
-        far = from-on im item (place + 10);
-        inside = omega (arith, h .inside);
-        small = rw (e, h .bytes, length-take) (omega (arith, h .inside));
-      }
-
-  pub text-refused : (k ≡ 0 → ⊥) → 4294967296 + k ≡ textNumber im sheet place item
+  pub text-refused : (t .refusal ≡ 0 → ⊥) → 4294967296 + t .refusal ≡ textNumber im sheet place item
   unfolding textNumber
-  text-refused h = sym (rw (← q) (if-ne k 0 _ _ h))
+  text-refused h = sym (rw (← refusal-is) (if-ne (t .refusal) 0 _ _ h))
 
-  pub text-given : (p : ℕ) (text : List ℕ) → k ≡ 0 → p ≡ itemPlace im place item → text ≡ optionText im sheet place item
-      → 65536 * (p + 1) + length text ≡ textNumber im sheet place item
+  pub text-given : t .refusal ≡ 0 → 65536 * t .start .0 + t .length ≡ textNumber im sheet place item
   unfolding textNumber
-  text-given p text z e f = rw (e, f) (sym (rw (← q) (if-eq k 0 _ _ z)))
+  text-given z = rw e (sym (if-eq _ 0 _ _ (sym refusal-is ∙ z)))
 
 -- ---- what a call ensures of a session that was taken from bytes
 

@@ -3,14 +3,13 @@ use Prim.Native.Nat.{ℕ, _+_, _*_}
 use mathlib.Core.List.{List}
 use lib.ListN.{length}
 use Rattle.laws.specs.Choice.{if_then_else_, _=?_}
-use Rattle.cmf.specs.Readers.{itemPlace}
 use Rattle.session.specs.Session.{closed}
 use Rattle.session.specs.declared.session.Session.{Session}
 use Rattle.handset.specs.Refusals.{_before_, _unless_}
 use Rattle.handset.specs.Open.{openRefusal, openAnswer, openSheet}
 use Rattle.handset.specs.Event.{eventRefusal, eventStep, eventTold}
 use Rattle.handset.specs.Draw.{drawRefusal, drawCursor}
-use Rattle.handset.specs.OptionText.{textRefusal, optionText}
+use Rattle.handset.specs.OptionText.{textRefusal, textPlace}
 use Rattle.binding.specs.Layout.{sessionSize, sessionBytes, sessionFrom}
 use Rattle.binding.specs.Answers.{refusedBy, cursorNumber}
 
@@ -65,5 +64,5 @@ textRefusedFrom = 4294967296
 unfoldable pub textNumber : List ℕ → ℕ → ℕ → ℕ → ℕ
 textNumber im sheet place item =
     if textRefusal im sheet place item =? 0
-    then placeFactor * (itemPlace im place item + 1) + length (optionText im sheet place item)
+    then placeFactor * textPlace im sheet place item .start .0 + textPlace im sheet place item .length
     else textRefusedFrom + textRefusal im sheet place item

@@ -14,12 +14,11 @@ use crate::answer::told;
 use crate::layout::SIZE;
 use crate::read::read_session;
 use crate::write::write_session;
-use cmf::text::item_place;
 use field::kind::ImagePlace;
 use handset::draw::draw;
 use handset::event::event_refusal;
 use handset::open::open;
-use handset::option::option_text;
+use handset::option::text_place;
 use handset::refusal::NO_SHAPE;
 use handset::refusal::session_refusal;
 use quick::accept::refusal_of;
@@ -27,6 +26,9 @@ use session::fits::shape_fits;
 use session::session::Session;
 
 const REFUSED_TEXT: u64 = 4294967296;
+
+// A place counts so many times, so that the length of an item fits below it.
+const PLACE: u64 = 65536;
 
 // The refusal of an Open whose session would not fit its buffer: 1, 2 to 11, then 12.
 fn unsized_refusal(image: &[u8], sheet: usize, columns: u8, lines: u8) -> u8
@@ -112,12 +114,9 @@ pub extern "C" fn handset_draw(
 pub extern "C" fn handset_option_text(image: &[u8], sheet: &[u8], place: usize, item: usize) -> u64
     ensures { λ r. ⌜ r ≡ textNumber (now (image .entry)) (length (now (sheet .entry))) place item ⌝ }
 {
-    let mut refusal: u8 = 0;
-    let text = option_text(image, sheet, ImagePlace(place), item, &mut refusal);
-    let length = text.len() as u64;
-    if refusal != 0 {
-        return REFUSED_TEXT + refusal as u64;
+    let text = text_place(image, sheet, ImagePlace(place), item);
+    if text.refusal != 0 {
+        return REFUSED_TEXT + text.refusal as u64;
     }
-    let start = item_place(image, item, place + 10) as u64 + 1;
-    65536 * start + length
+    PLACE * text.start.0 as u64 + text.length as u64
 }

@@ -5,14 +5,17 @@ use mathlib.Core.Bool.{Bool, true, false, true≢false}
 use mathlib.Core.List.{List, [], _∷_, _++_}
 use native.Mathlib.Omega.{arith}
 use native.Mathlib.Decide.{ℕ-discrete}
+use borrow.Author.Tests.{eqb-true}
+use Rattle.laws.specs.Bytes.{byteAt}
 use Rattle.laws.specs.Choice.{if_then_else_, _and_, _=?_, _<?_}
 use Rattle.laws.proofs.Cases.{if-ind, if-eq, if-ne}
-use Rattle.cmf.specs.Readers.{itemPlace, textBytes, componentAt}
+use Rattle.cmf.specs.Readers.{itemPlace, componentAt}
 use Rattle.acceptance.specs.Check.{State, checked, refusalOf}
 use Rattle.acceptance.specs.Index.{entryAt, listed}
 use Rattle.acceptance.specs.declared.index.Entry.{Entry}
 use Rattle.handset.specs.Refusals.{_before_, _unless_}
-use Rattle.handset.specs.OptionText.{reached, itemsIn, textRefusal, optionText}
+use Rattle.handset.specs.OptionText.{reached, itemsIn, textRefusal, textAt, textPlace, optionText}
+use Rattle.handset.specs.declared.option.TextPlace.{TextPlace}
 
 found-left : (p : ℕ) (es fs : List Entry) → reached p es ≡ true → reached p (es ++ fs) ≡ true
 unfolding reached if_then_else_
@@ -61,12 +64,25 @@ pub refusal-is : (im : List ℕ) (sheet place item : ℕ) (s : State) → s ≡ 
 unfolding textRefusal refusalOf
 refusal-is im sheet place item s e = rw e
 
--- what the call returns
+-- where the text of a call that is refused is, and of one that is not
+pub place-none : (im : List ℕ) (sheet place item : ℕ) → (textRefusal im sheet place item ≡ 0 → ⊥)
+    → textPlace im sheet place item ≡ textAt (textRefusal im sheet place item) 0 0
+unfolding textPlace
+place-none im sheet place item h = if-ne _ 0 _ _ h
+
+pub place-some : (im : List ℕ) (sheet place item : ℕ) → textRefusal im sheet place item ≡ 0
+    → textPlace im sheet place item ≡ textAt 0 (itemPlace im place item + 1) (byteAt im (itemPlace im place item))
+unfolding textPlace
+place-some im sheet place item h = if-eq _ 0 _ _ h
+
+-- its refusal is the call's
+pub place-refusal : (im : List ℕ) (sheet place item : ℕ) → textPlace im sheet place item .refusal ≡ textRefusal im sheet place item
+unfolding textPlace
+place-refusal im sheet place item =
+    let k = textRefusal im sheet place item in
+    if-ind (λ (t : TextPlace). t .refusal ≡ k) (k =? 0) (λ e. sym (eqb-true k 0 e)) (λ _. refl)
+
+-- a refused call returns an empty part
 pub text-none : (im : List ℕ) (sheet place item : ℕ) → (textRefusal im sheet place item ≡ 0 → ⊥) → optionText im sheet place item ≡ []
 unfolding optionText
-text-none im sheet place item h = if-ne _ 0 _ _ h
-
-pub text-some : (im : List ℕ) (sheet place item : ℕ) → textRefusal im sheet place item ≡ 0
-    → optionText im sheet place item ≡ textBytes im (itemPlace im place item)
-unfolding optionText
-text-some im sheet place item h = if-eq _ 0 _ _ h
+text-none im sheet place item h = rw (place-none im sheet place item h)

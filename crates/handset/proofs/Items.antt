@@ -1,30 +1,30 @@
 -- An option text that is not refused is the item's own bytes, all of them in the image, and the items stand one behind the other:
 -- the place is that of a field of a well-formed image, and section 7 has an option's texts there.
-use Prim.Native.Nat.{ℕ, zero, suc, _+_, _≤_, _<_}
-use mathlib.Core.Path.{_≡_, refl, _∙_}
+use Prim.Native.Nat.{ℕ, zero, suc, _+_, _-_, _≤_, _<_}
+use mathlib.Core.Path.{_≡_, refl, sym, _∙_}
 use mathlib.Core.Bool.{Bool, true, false≢true}
 use mathlib.Core.List.{List, [], _∷_, map}
 use native.Mathlib.Omega.{arith}
 use lib.ListN.{length}
 use borrow.Author.Tests.{eqb-true, ltb-true, ltb-false}
-use Rattle.laws.specs.Choice.{_and_, _=?_, _<?_}
+use Rattle.laws.specs.Choice.{if_then_else_, _and_, _=?_, _<?_}
 use Rattle.laws.specs.Bytes.{byteAt}
 use Rattle.laws.specs.Parts.{partAt}
-use Rattle.laws.proofs.Cases.{if-ind, by-test, if-true, if-lt, if-ge, and-l, and-r}
-use Rattle.laws.proofs.Rooms.{le-room}
+use Rattle.laws.proofs.Cases.{if-ind, by-test, if-lt, if-ge, and-l, and-r}
 use Rattle.field.specs.declared.record.Field.{Field}
 use Rattle.cmf.specs.Layouts.{Texts, Component}
 use Rattle.cmf.specs.Grammar.{Every, WellFormed}
-use Rattle.cmf.specs.Readers.{itemFrom, itemPlace, textBytes, componentAt}
+use Rattle.cmf.specs.Readers.{itemFrom, itemPlace, componentAt}
 use Rattle.cmf.specs.declared.component.Component as read
 use Rattle.cmf.proofs.Agreement.{fieldsOf}
 use Rattle.cmf.proofs.Agreeing.{agree}
 use Rattle.acceptance.specs.Check.{entryOf, checked, refusalOf}
 use Rattle.acceptance.proofs.Acceptance.{accepted-exactly-when-well-formed, counted}
 use Rattle.acceptance.proofs.Fields.{every-table}
-use Rattle.handset.specs.OptionText.{reached, itemsIn, textRefusal, optionText, ItemIs}
+use Rattle.handset.specs.OptionText.{reached, itemsIn, textRefusal, textAt, textPlace, optionText, ItemIs}
+use Rattle.handset.specs.declared.option.TextPlace.{TextPlace}
 use Rattle.handset.proofs.Ordering.{none-before, none-unless}
-use Rattle.handset.proofs.Finding.{text-some}
+use Rattle.handset.proofs.Finding.{place-none, place-some, place-refusal}
 
 -- ---- texts one behind the other
 
@@ -126,15 +126,12 @@ granted im sheet place item h =
       one = ltb-true item (itemsIn (componentAt im place .field .kind)) (and-r _ _ b);
     }
 
--- the text at a place, where it is all in the image
-text-is : (im : List ℕ) (at : ℕ) → at + 1 + byteAt im at ≤ length im → textBytes im at ≡ partAt (at + 1) (byteAt im at) im
-unfolding textBytes
-text-is im at h = if-true _ _ (le-room (length im) at (1 + byteAt im at) (omega arith))
-
--- whenever the call is not refused the answer is the item's own bytes, all of them in the image
-pub item-is : (im : List ℕ) (sheet place item : ℕ) → textRefusal im sheet place item ≡ 0 → ItemIs im place item (optionText im sheet place item)
-item-is im sheet place item z =
-    record { inside = h; bytes = text-some im sheet place item z ∙ text-is im (itemPlace im place item) h }
+-- whenever the call is not refused the item is all in the image
+pub item-inside :
+    (im : List ℕ) (sheet place item : ℕ) → textRefusal im sheet place item ≡ 0 →
+    itemPlace im place item + 1 + byteAt im (itemPlace im place item) ≤ length im
+item-inside im sheet place item z =
+    reached-stands im place all (rw (counted im sheet w .index) at (g .found)) .stands item (g .one)
   where
     g : Granted im sheet place item
     g = granted im sheet place item z
@@ -145,8 +142,58 @@ item-is im sheet place item z =
     all : AllStand im (w .fields)
     all = every-table im _ (component-stands im) _ _ _ _ (w .table)
 
-    h : itemPlace im place item + 1 + byteAt im (itemPlace im place item) ≤ length im
-    h = reached-stands im place all (rw (counted im sheet w .index) at (g .found)) .stands item (g .one)
+-- and the answer is the item's own bytes
+pub item-is : (im : List ℕ) (sheet place item : ℕ) → textRefusal im sheet place item ≡ 0 → ItemIs im place item (optionText im sheet place item)
+unfolding optionText
+item-is im sheet place item z =
+    record { inside = item-inside im sheet place item z; bytes = rw (place-some im sheet place item z) }
+
+-- the part that the call shows is in the image, refused or not
+pub part-inside :
+    (im : List ℕ) (sheet place item : ℕ) →
+    textPlace im sheet place item .start .0 + textPlace im sheet place item .length ≤ length im
+unfolding textPlace
+part-inside im sheet place item =
+    let k = textRefusal im sheet place item in
+    if-ind (λ (t : TextPlace). t .start .0 + t .length ≤ length im) (k =? 0)
+    (λ e. item-inside im sheet place item (eqb-true k 0 e)) (λ _. omega arith)
+
+-- what is shown where the code has found the place
+module _ (im : List ℕ) (sheet place item : ℕ) {t : TextPlace} (e : t ≡ textPlace im sheet place item) where
+  pub shown-inside : t .start .0 + t .length ≤ length im
+  shown-inside = rw e (part-inside im sheet place item)
+
+  pub shown : partAt (t .start .0) (t .start .0 + t .length - t .start .0) im ≡ optionText im sheet place item
+  unfolding optionText
+  shown =
+      let z : t .start .0 + t .length - t .start .0 ≡ t .length = omega arith in
+      rw (z, e)
+
+  pub shown-refusal : t .refusal ≡ textRefusal im sheet place item
+  shown-refusal = rw e (place-refusal im sheet place item)
+
+-- texts come no earlier than the first
+from-on : (im : List ℕ) (k at : ℕ) → at ≤ itemFrom im k at
+unfolding itemFrom
+from-on im zero at = omega arith
+from-on im (suc k) at =
+    if-ind (λ (p : ℕ). at ≤ p) (at <? length im) (λ _. omega (arith, from-on im k (at + 1 + byteAt im at))) (λ _. omega arith)
+
+-- the call by what the code finds: the refusal, and for a text that is given the item's place
+module _ (im : List ℕ) (sheet place item k : ℕ) (q : k ≡ textRefusal im sheet place item) where
+  pub not-placed : (k ≡ 0 → ⊥) → textAt k 0 0 ≡ textPlace im sheet place item
+  not-placed h = rw q (sym (place-none im sheet place item (rw q at h)))
+
+  module _ (z : k ≡ 0) (p : ℕ) (e : p ≡ (if place <? length im then itemPlace im place item else 0)) where
+    found : p ≡ itemPlace im place item
+    found =
+        e ∙ if-lt place (length im) _ _ (omega (arith, item-inside im sheet place item (sym q ∙ z), from-on im item (place + 10)))
+
+    pub placed-inside : p + 1 ≤ length im
+    placed-inside = rw found (omega (arith, item-inside im sheet place item (sym q ∙ z)))
+
+    pub placed : (n : ℕ) → n ≡ byteAt im p → textAt 0 (p + 1) n ≡ textPlace im sheet place item
+    placed n f = rw (f, found) (sym (place-some im sheet place item (sym q ∙ z)))
 
 -- the first item stands behind the ten bytes of 7.5.21
 pub first-item : (im : List ℕ) (place : ℕ) → itemPlace im place 0 ≡ place + 10

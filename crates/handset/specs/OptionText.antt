@@ -9,10 +9,11 @@ use Rattle.laws.specs.Bytes.{byteAt}
 use Rattle.laws.specs.Parts.{partAt}
 use Rattle.field.specs.declared.kind.Kind.{Kind}
 use Rattle.field.specs.declared.kind.Kind.the-variants.{Integer, Counter, Time, Date, Switch, Option, Trigger}
-use Rattle.cmf.specs.Readers.{textBytes, itemPlace, componentAt}
+use Rattle.cmf.specs.Readers.{itemPlace, componentAt}
 use Rattle.acceptance.specs.Check.{checked, refusalOf}
 use Rattle.acceptance.specs.declared.index.Entry.{Entry}
 use Rattle.handset.specs.Refusals.{_before_, _unless_}
+use Rattle.handset.specs.declared.option.TextPlace.{TextPlace}
 
 -- a field was reached at a place
 unfoldable pub reached : ℕ → List Entry → Bool
@@ -35,12 +36,23 @@ textRefusal im sheet place item =
     refusalOf im sheet
     before (14 unless (reached place (checked im sheet .fields) and (item <? itemsIn (componentAt im place .field .kind))))
 
--- the item's own bytes; a refusal gives an empty part
+-- a refusal, or the place of a text's first byte and how many there are
+abbrev pub textAt : ℕ → ℕ → ℕ → TextPlace
+textAt k start n = record { refusal = k; start = record { 0 = start }; length = n }
+
+-- where the item's own bytes are: after its length byte, as many as that says; a refusal has neither place nor length
+unfoldable pub textPlace : List ℕ → ℕ → ℕ → ℕ → TextPlace
+textPlace im sheet place item =
+    if textRefusal im sheet place item =? 0
+    then textAt 0 (itemPlace im place item + 1) (byteAt im (itemPlace im place item))
+    else textAt (textRefusal im sheet place item) 0 0
+
+-- the item's own bytes are that part of the image; a refusal gives an empty part
 unfoldable pub optionText : List ℕ → ℕ → ℕ → ℕ → List ℕ
 optionText im sheet place item =
-    if textRefusal im sheet place item =? 0 then textBytes im (itemPlace im place item) else []
+    partAt (textPlace im sheet place item .start .0) (textPlace im sheet place item .length) im
 
--- a text is the item's: all of the item is in the image, and the text is the bytes behind its length byte, as many as that says
+-- a text is the item's: all of the item is in the image, and the text is the bytes after its length byte, as many as that says
 pub record ItemIs (im : List ℕ) (place item : ℕ) (text : List ℕ) : Type 0 where
   pub inside : itemPlace im place item + 1 + byteAt im (itemPlace im place item) ≤ length im
   pub bytes : text ≡ partAt (itemPlace im place item + 1) (byteAt im (itemPlace im place item)) im

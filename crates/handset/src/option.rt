@@ -1,15 +1,23 @@
-// The call Option text: an item's own bytes, shown as that part of the lent image.
+// The call Option text: an item's own bytes, shown as that part of the lent image, and where that part is.
 ghost use mathlib.Core.Path.{_≡_};
 ghost use lib.ListN.{length};
 ghost use Rattle.acceptance.specs.Index.{listed};
-ghost use Rattle.handset.specs.OptionText.{reached, itemsIn, textRefusal, optionText};
+ghost use Rattle.handset.specs.OptionText.{reached, itemsIn, textRefusal, textPlace, optionText};
 use crate::refusal::NO_ITEM;
 use acceptance::index::entry_at;
 use cmf::component::read_component;
-use cmf::text::item_bytes;
+use cmf::text::item_place;
 use field::kind::ImagePlace;
 use field::kind::Kind;
+use laws::byte_at;
 use walk::check::check;
+
+// Where an item's own bytes are in the image: the place of the first and how many; both 0 where the call is refused.
+pub struct TextPlace {
+    pub refusal: u8,
+    pub start: ImagePlace,
+    pub length: usize,
+}
 
 // Whether one of the first k entries of an index stands at a place.
 fn is_reached(index: &[usize], k: usize, place: usize) -> bool
@@ -64,6 +72,27 @@ fn text_refusal(image: &[u8], sheet: usize, place: usize, item: usize) -> u8
     NO_ITEM
 }
 
+// Where an item's text is.
+pub fn text_place(image: &[u8], sheet: &[u8], place: ImagePlace, item: usize) -> TextPlace
+    ensures { λ r. ⌜ r ≡ textPlace (now (image .entry)) (length (now (sheet .entry))) (place .0) item ⌝ }
+{
+    let at = place.0;
+    let refusal = text_refusal(image, sheet.len(), at, item);
+    if refusal != 0 {
+        return TextPlace {
+            refusal,
+            start: ImagePlace(0),
+            length: 0,
+        };
+    }
+    let text = item_place(image, at, item);
+    TextPlace {
+        refusal: 0,
+        start: ImagePlace(text + 1),
+        length: byte_at(image, text) as usize,
+    }
+}
+
 // An item's text; the refusal number goes to `refusal`, and a refusal gives an empty part.
 pub fn option_text<'a, 'b, 'c>(
     image: &'a [u8],
@@ -75,11 +104,9 @@ pub fn option_text<'a, 'b, 'c>(
     ensures { λ r. ⌜ now r ≡ optionText (now (image .entry)) (length (now (sheet .entry))) (place .0) item ⌝ }
     ensures { λ r. ⌜ now (refusal .exit) ≡ textRefusal (now (image .entry)) (length (now (sheet .entry))) (place .0) item ⌝ }
 {
-    let at = place.0;
-    let code = text_refusal(image, sheet.len(), at, item);
-    *refusal = code;
-    if code != 0 {
-        return &image[0..0];
-    }
-    item_bytes(image, at, item)
+    let found = text_place(image, sheet, place, item);
+    *refusal = found.refusal;
+    let start = found.start.0;
+    let end = start + found.length;
+    &image[start..end]
 }

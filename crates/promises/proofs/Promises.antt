@@ -36,6 +36,7 @@ use Rattle.handset.proofs.Ordering.{first-given, next-given, holding, failing, 
 use Rattle.handset.proofs.Drawing.{refused-cursor, refused-picture, drawn-cursor, drawn-picture}
 use Rattle.handset.proofs.Stepping.{refused-step, refused-sheet, stepped, stepped-sheet}
 use Rattle.handset.proofs.Defaults.{all, others-stay}
+use Rattle.handset.proofs.Finding.{text-none}
 use Rattle.handset.proofs.Items.{item-is}
 use Rattle.journal.specs.Journal.{allVisited}
 use Rattle.journal.specs.Rules.{fieldAt, rulesOf, IsField, Beside}
@@ -102,7 +103,7 @@ text-order im sheet place item = one-test (refusalOf im sheet) 14 _
 -- ---- demand 1
 
 pub demand-1 : (im : List ℕ) → Demand1 im
-unfolding openAnswer openSheet eventTold drawCursor drawnPicture optionText cursor.told
+unfolding openAnswer openSheet eventTold drawCursor drawnPicture cursor.told
 demand-1 im = record {
   numbers = record {
     of-image = refused-exactly-when im;
@@ -126,7 +127,7 @@ demand-1 im = record {
     nowhere = sym (refused-cursor im sheet s picture _ refl h);
     keeps = sym (refused-picture im sheet s picture _ refl h);
   };
-  refused-text = λ sheet place item h. if-ne (textRefusal im sheet place item) 0 _ _ h;
+  refused-text = text-none im;
 }
 
 -- every field of the derivation is read at its place, so that `IsField` misses none
