@@ -63,7 +63,7 @@ int main(int argc, char **argv)
             if (!event)
                 continue;
             began = now();
-            sum = sum * 31 + done(EVENT, began, handset_event(image, image_len, sheet, sizeof sheet, session, sizeof session, (uint8_t)(event - events)));
+            sum = sum * 31 + done(EVENT, began, handset_event(image, image_len, sheet, sizeof sheet, session, sizeof session, (uint32_t)(event - events)));
             began = now();
             sum = sum * 31 + done(DRAW, began, handset_draw(image, image_len, sheet, sizeof sheet, session, sizeof session, picture, sizeof picture));
             for (size_t k = 0; k < sizeof picture; k++)

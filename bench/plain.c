@@ -495,10 +495,10 @@ static void write_defaults(const uint8_t *image, uint8_t *sheet, const uint16_t 
     }
 }
 
-uint32_t handset_open(const uint8_t *image, size_t image_len, uint8_t *sheet, size_t sheet_len, uint8_t columns, uint8_t lines,
+uint32_t handset_open(const uint8_t *image, size_t image_len, uint8_t *sheet, size_t sheet_len, uint32_t columns, uint32_t lines,
                       uint8_t *session, size_t session_len)
 {
-    struct session s = {.columns = columns, .lines = lines};
+    struct session s = {.columns = (uint8_t)columns, .lines = (uint8_t)lines};
     uint16_t list[FIELDS_MOST];
     unsigned first;
     unsigned refusal = BAD_SHAPE;
@@ -516,7 +516,7 @@ uint32_t handset_open(const uint8_t *image, size_t image_len, uint8_t *sheet, si
 }
 
 uint32_t handset_event(const uint8_t *image, size_t image_len, uint8_t *sheet, size_t sheet_len, uint8_t *session,
-                       size_t session_len, uint8_t event)
+                       size_t session_len, uint32_t event)
 {
     struct session s;
     struct here here;

@@ -43,7 +43,7 @@ static void show(const char *what, uint32_t answer)
         printf("|%.*s|\n", COLUMNS, (const char *)picture + COLUMNS * row);
 }
 
-static void key(const char *name, uint8_t event)
+static void key(const char *name, uint32_t event)
 {
     show(name, handset_event(image, sizeof image, sheet, sizeof sheet, session, sizeof session, event));
 }

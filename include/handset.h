@@ -6,7 +6,8 @@
  *
  * A refusal alters no byte of sheet, session or picture; only handset_open, when refused, writes a closed session, which never
  * fits. A session is HANDSET_SESSION_BYTES bytes. Bytes of another length are a session that does not fit: refusal 12, after 2
- * to 11 (and after 1 in handset_open, which then alters nothing).
+ * to 11 (and after 1 in handset_open, which then alters nothing). Columns, lines and events are whole numbers: none is cut to a byte,
+ * so 270 columns are refusal 1 and event 272 is refusal 13.
  */
 #ifndef HANDSET_H
 #define HANDSET_H
@@ -40,13 +41,13 @@ extern "C" {
 
 /* Checks image and sheet, writes each field's default to the sheet and a session to `session`: the top table at its first line.
  * 0, or a refusal: 1 for the shape, 2 to 11, 12 for a session buffer of the wrong length. */
-uint32_t handset_open(const uint8_t *image, size_t image_len, uint8_t *sheet, size_t sheet_len, uint8_t columns, uint8_t lines,
+uint32_t handset_open(const uint8_t *image, size_t image_len, uint8_t *sheet, size_t sheet_len, uint32_t columns, uint32_t lines,
                       uint8_t *session, size_t session_len);
 
 /* Takes an event: the next session stands in `session`, and the sheet changes where a visit is finished.
  * HANDSET_TAKEN, HANDSET_FLASH, HANDSET_FINISHED or HANDSET_FIRED + the image place of the component, or a refusal: 2 to 13. */
 uint32_t handset_event(const uint8_t *image, size_t image_len, uint8_t *sheet, size_t sheet_len, uint8_t *session,
-                       size_t session_len, uint8_t event);
+                       size_t session_len, uint32_t event);
 
 /* Fills a picture of columns x lines bytes, row by row.
  * 0 for no edit cursor, HANDSET_CURSOR + 256 * row + column (both from 0), or a refusal: 2 to 12, 1 for the picture's length. */

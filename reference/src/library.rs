@@ -22,8 +22,8 @@ extern "C" {
         image_len: usize,
         sheet: *mut u8,
         sheet_len: usize,
-        columns: u8,
-        lines: u8,
+        columns: u32,
+        lines: u32,
         session: *mut u8,
         session_len: usize,
     ) -> u32;
@@ -34,7 +34,7 @@ extern "C" {
         sheet_len: usize,
         session: *mut u8,
         session_len: usize,
-        event: u8,
+        event: u32,
     ) -> u32;
     fn handset_draw(
         image: *const u8,
@@ -80,8 +80,8 @@ impl Library {
                 self.image.len(),
                 self.sheet.as_mut_ptr(),
                 self.sheet.len(),
-                columns as u8,
-                lines as u8,
+                columns as u32,
+                lines as u32,
                 self.session.as_mut_ptr(),
                 self.session.len(),
             )
@@ -100,7 +100,7 @@ impl Library {
                 self.sheet.len(),
                 self.session.as_mut_ptr(),
                 self.session.len(),
-                event as u8,
+                event as u32,
             )
         };
         let answer = answer_of(number);

@@ -1,5 +1,6 @@
 // The calls that C sees: handset_open, handset_event, handset_draw and handset_option_text.
 ghost use mathlib.Core.Path.{_≡_};
+ghost use Prim.Native.Nat.{min};
 ghost use lib.ListN.{length};
 ghost use Rattle.binding.specs.Layout.{sessionFrom};
 ghost use Rattle.binding.specs.Calls.{openNumber, openedSheet, openedBytes, openedSession, eventNumber, eventBytes, drawNumber, textNumber};
@@ -30,6 +31,16 @@ const REFUSED_TEXT: u64 = 4294967296;
 // A place counts so many times, so that the length of an item fits below it.
 const PLACE: u64 = 65536;
 
+// A number of C as the byte that `handset` takes: what is above 255 goes as 255, which is refused alike.
+fn byte_of(n: u32) -> u8
+    ensures { λ r. ⌜ r ≡ min n 255 ⌝ }
+{
+    if n < 255 {
+        return n as u8;
+    }
+    255
+}
+
 // The refusal of an Open whose session would not fit its buffer: 1, 2 to 11, then 12.
 fn unsized_refusal(image: &[u8], sheet: usize, columns: u8, lines: u8) -> u8
     ensures { λ r. ⌜ r ≡ openRefusal (now (image .entry)) sheet columns lines before 12 ⌝ }
@@ -45,8 +56,8 @@ fn unsized_refusal(image: &[u8], sheet: usize, columns: u8, lines: u8) -> u8
 pub extern "C" fn handset_open(
     image: &[u8],
     sheet: &mut [u8],
-    columns: u8,
-    lines: u8,
+    columns: u32,
+    lines: u32,
     session: &mut [u8],
 ) -> u32
     ensures { λ r. ⌜ r ≡ openNumber (now (image .entry)) (length (now (sheet .entry))) columns lines (length (now (session .entry))) ⌝ }
@@ -54,10 +65,12 @@ pub extern "C" fn handset_open(
     ensures { λ _. ⌜ now (session .exit) ≡ openedBytes (now (image .entry)) (length (now (sheet .entry))) columns lines (now (session .entry)) ⌝ }
     ensures { λ _. ⌜ sessionFrom (now (session .exit)) ≡ openedSession (now (image .entry)) (length (now (sheet .entry))) columns lines (length (now (session .entry))) ⌝ }
 {
+    let across = byte_of(columns);
+    let down = byte_of(lines);
     if session.len() != SIZE {
-        return REFUSED + unsized_refusal(image, sheet.len(), columns, lines) as u32;
+        return REFUSED + unsized_refusal(image, sheet.len(), across, down) as u32;
     }
-    let opened = open(image, &mut *sheet, columns, lines);
+    let opened = open(image, &mut *sheet, across, down);
     let first = opened.session;
     write_session(&mut *session, first);
     refused_by(opened.refusal)
@@ -68,7 +81,7 @@ pub extern "C" fn handset_event(
     image: &[u8],
     sheet: &mut [u8],
     session: &mut [u8],
-    event: u8,
+    event: u32,
 ) -> u32
     ensures { λ r. ⌜ r ≡ eventNumber (now (image .entry)) (now (sheet .entry)) (now (session .entry)) event ⌝ }
     ensures { λ _. ⌜ now (sheet .exit) ≡ eventSheet (now (image .entry)) (now (sheet .entry)) (sessionFrom (now (session .entry))) event ⌝ }
@@ -79,11 +92,12 @@ pub extern "C" fn handset_event(
     let before = read_session(&*session);
     let faulty = refusal_of(image, sheet.len());
     let unfit = session_refusal(faulty, image, before);
-    let refused = event_refusal(unfit, event);
+    let number = byte_of(event);
+    let refused = event_refusal(unfit, number);
     if refused != 0 {
         return refused_by(refused);
     }
-    let stepped = before.step(image, &mut *sheet, event);
+    let stepped = before.step(image, &mut *sheet, number);
     let answer = stepped.answer;
     let next = stepped.session;
     write_session(&mut *session, next);

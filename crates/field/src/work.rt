@@ -69,7 +69,11 @@ impl Work {
     pub fn cell(self, i: usize) -> u64
         ensures { λ r. ⌜ (r ≡ getD (self .cells) i 0) × (r < 4294967296) ⌝ }
     {
-        if i < Work::CELLS { self.cells[i] as u64 } else { 0 }
+        if i < Work::CELLS {
+            self.cells[i] as u64
+        } else {
+            0
+        }
     }
 
     // The third byte of a time, where it has seconds.

@@ -21,6 +21,8 @@ pub struct Plan {
     pub most_actions: usize,
     /// In how many of a thousand actions another image is lent.
     pub other_images: usize,
+    /// Whether columns, lines and events may be numbers that no byte holds.
+    pub wide: bool,
 }
 
 pub struct Sitting {
@@ -44,7 +46,7 @@ impl Sitting {
 
     /// A sitting on this image and sheet.
     pub fn on(mut random: Random, plan: Plan, material: Material) -> Sitting {
-        let (columns, lines) = shape(&mut random);
+        let (columns, lines) = shape(&mut random, plan.wide);
         let mut waiting = VecDeque::from([Step::Image(material.image.clone()), Step::Sheet(material.sheet.clone())]);
         if random.once_in(15) {
             // the closed session: 12 where the image is good
@@ -84,7 +86,7 @@ impl Sitting {
         }
         match self.random.below(1000) {
             0..=599 if self.menu.is_some() && !fits => {
-                let (columns, lines) = shape(&mut self.random);
+                let (columns, lines) = shape(&mut self.random, self.plan.wide);
                 self.waiting.push_back(Step::Open { columns, lines });
             }
             0..=749 => self.events(reference),
@@ -115,6 +117,10 @@ impl Sitting {
 
     fn event(&mut self, session: &Session) -> usize {
         if self.random.once_in(60) {
+            if self.plan.wide && self.random.once_in(2) {
+                let low = self.random.below(LAST_EVENT + 2);
+                return widened(&mut self.random, low);
+            }
             return self.random.within(LAST_EVENT as i64 + 1, 255) as usize;
         }
         if self.random.once_in(12) {
@@ -212,8 +218,22 @@ fn material(random: &mut Random) -> Material {
     }
 }
 
+/// A number of 32 bits with this low byte that no byte holds.
+fn widened(random: &mut Random, low: usize) -> usize {
+    let above = *random.pick(&[1, 2, 0xFF, 0x100, 0xFF_FFFF]);
+    256 * above + low
+}
+
 /// Columns and lines: legal ones mostly.
-fn shape(random: &mut Random) -> (usize, usize) {
+fn shape(random: &mut Random, wide: bool) -> (usize, usize) {
+    if wide && random.once_in(40) {
+        let (columns, lines) = shape(random, false);
+        return match random.below(3) {
+            0 => (widened(random, columns), lines),
+            1 => (columns, widened(random, lines)),
+            _ => (widened(random, columns), widened(random, lines)),
+        };
+    }
     if random.once_in(40) {
         return (random.within(12, 22) as usize, random.within(0, 6) as usize);
     }
