@@ -2,29 +2,24 @@
 use Prim.Native.Nat.{ℕ, _+_, _≤_, _<_}
 use mathlib.Core.Path.{_≡_}
 use mathlib.Core.Bool.{true, false}
-use mathlib.Core.List.{List, [], _∷_}
+use mathlib.Core.List.{List}
 use lib.ListN.{length}
-use Rattle.laws.specs.Choice.{if_then_else_}
 use Rattle.laws.specs.Bytes.{byteAt}
 use Rattle.field.specs.declared.record.Field.{Field}
 use Rattle.cmf.specs.Layouts.{Text, Aligned, Component, lastBit}
 use Rattle.cmf.specs.Grammar.{Head, isLast, hasSubmenu, nextLine, submenuTable}
 use Rattle.cmf.specs.Readers.{oddFrom, evenFrom, titleAt, headAt, componentAt}
-use Rattle.cmf.specs.declared.component.Component as read
-
--- the field of a component that is one
-abbrev pub fieldsOf : read.Component → List Field
-fieldsOf c = if c .holds then c .field ∷ [] else []
+use Rattle.cmf.specs.Places.{heldBy}
 
 -- what a component of the grammar reads as
 pub record ComponentIs (im : List ℕ) (at end : ℕ) (fs : List Field) : Type 0 where
   pub refusal : componentAt im at .refusal ≡ 0
   pub ends : componentAt im at .end ≡ end
-  pub fields : fieldsOf (componentAt im at) ≡ fs
+  pub fields : heldBy (componentAt im at) ≡ fs
 
 -- what is known of a component that reads with code 0
 pub record ComponentReads (im : List ℕ) (at : ℕ) : Type 0 where
-  pub component : Component im at (componentAt im at .end) (fieldsOf (componentAt im at))
+  pub component : Component im at (componentAt im at .end) (heldBy (componentAt im at))
   pub last : componentAt im at .last ≡ true → lastBit im at ≡ 1
   pub more : componentAt im at .last ≡ false → lastBit im at ≡ 0
   pub next : componentAt im at .next ≡ evenFrom (componentAt im at .end)

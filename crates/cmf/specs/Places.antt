@@ -1,10 +1,12 @@
--- The way through an image: the lines of a table and the components of a line, as lists of their places.
+-- The way through an image: the lines of a table, the components of a line and all components that a walk reaches, as lists of their places.
 use Prim.Native.Nat.{ℕ, zero, suc, _+_}
-use mathlib.Core.List.{List, [], _∷_}
+use mathlib.Core.List.{List, [], _∷_, _++_}
 use lib.ListN.{length}
 use Rattle.laws.specs.Choice.{if_then_else_}
-use Rattle.cmf.specs.Limits.{mostLinesOfTable}
+use Rattle.field.specs.declared.record.Field.{Field}
+use Rattle.cmf.specs.Limits.{mostLinesOfTable, deepestTable, prologBytes}
 use Rattle.cmf.specs.Readers.{titleAt, headAt, componentAt}
+use Rattle.cmf.specs.declared.component.Component.{Component}
 
 -- the lines from one on to the last of the table, at most k
 unfoldable pub linesFrom : List ℕ → ℕ → ℕ → List ℕ
@@ -35,3 +37,38 @@ lineAt im t k = lineFrom im k (titleAt im t .line)
 -- how many lines a table has
 unfoldable pub lineCount : List ℕ → ℕ → ℕ
 lineCount im t = length (linesOf im t)
+
+-- the field of a component that is one
+abbrev pub heldBy : Component → List Field
+heldBy c = if c .holds then c .field ∷ [] else []
+
+-- ---- the walk of 01, Refusal numbers: depth first, lines in order, a line's components before its submenu
+
+module _ (im : List ℕ) where
+  module _ (submenu : ℕ → List ℕ) where
+    -- the components that are reached at a line: its own, then those of its submenu
+    unfoldable pub lineReach : ℕ → List ℕ
+    lineReach p = componentsOf im p ++ (if headAt im p .submenu then submenu (headAt im p .table) else [])
+
+    -- at lines, one after another
+    unfoldable pub linesReach : List ℕ → List ℕ
+    linesReach [] = []
+    linesReach (p ∷ ps) = lineReach p ++ linesReach ps
+
+  -- from a table on; so many levels are left, its own among them
+  unfoldable pub tableReach : ℕ → ℕ → List ℕ
+  tableReach zero t = []
+  tableReach (suc left) t = linesReach (tableReach left) (linesOf im t)
+
+  -- from the top table on
+  unfoldable pub componentPlaces : List ℕ
+  componentPlaces = tableReach deepestTable prologBytes
+
+  -- the fields among the components at these places, in their order
+  unfoldable pub fieldsAmong : List ℕ → List Field
+  fieldsAmong [] = []
+  fieldsAmong (c ∷ cs) = heldBy (componentAt im c) ++ fieldsAmong cs
+
+  -- 01, Fields: the fields of an image, each as often as it is reached
+  unfoldable pub fieldsOf : List Field
+  fieldsOf = fieldsAmong componentPlaces
