@@ -1,16 +1,16 @@
 -- The theorem that users rely on: an image is accepted exactly when it is well formed, and then the walk's counts and index are those
 -- of the grammar. The readers agree with the grammar (crate cmf), so nothing is left as a premise.
 use Prim.Native.Nat.{ℕ, _+_, _≤_}
-use mathlib.Core.Path.{_≡_}
-use mathlib.Core.List.{List}
+use mathlib.Core.Path.{_≡_, sym, ap, _∙_}
+use mathlib.Core.List.{List, map}
 use lib.ListN.{length}
 use Rattle.cmf.specs.Grammar.{WellFormed}
-use Rattle.cmf.specs.Places.{componentsFrom}
+use Rattle.cmf.specs.Places.{componentsFrom, fieldsOf}
 use Rattle.cmf.proofs.Agreeing.{agree}
 use Rattle.cmf.proofs.Onward.{component-onward}
-use Rattle.acceptance.specs.Check.{refusalOf}
+use Rattle.acceptance.specs.Check.{entryOf, checked, refusalOf}
 use Rattle.acceptance.proofs.Accepted as accepted
-use Rattle.acceptance.proofs.Unique as unique
+use Rattle.acceptance.proofs.Places as places
 use Rattle.acceptance.proofs.Turns as turns
 
 module _ (im : List ℕ) (sheet : ℕ) where
@@ -21,9 +21,17 @@ module _ (im : List ℕ) (sheet : ℕ) where
   pub counted : (w : WellFormed im sheet) → accepted.Counted im sheet w
   counted w = accepted.counted im sheet (agree im) w
 
+  -- the fields of a well-formed image are those that a walk over its tables, lines and components reaches
+  pub fields-are : (w : WellFormed im sheet) → w .fields ≡ fieldsOf im
+  fields-are w = places.fields-are im (agree im) sheet w
+
+  -- and so are the check's, where it refuses nothing
+  pub checked-fields : refusalOf im sheet ≡ 0 → checked im sheet .fields ≡ map entryOf (fieldsOf im)
+  checked-fields z = let w = accepted-exactly-when-well-formed .0 z in counted w .index ∙ ap (map entryOf) (fields-are w)
+
 -- an image is read in one way only: its fields do not depend on the sheet
 pub same-fields : (im : List ℕ) (a b : ℕ) (v : WellFormed im a) (w : WellFormed im b) → v .fields ≡ w .fields
-same-fields im a b v w = unique.same-fields im (agree im) a b v w
+same-fields im a b v w = fields-are im a v ∙ sym (fields-are im b w)
 
 -- a bound on the components of a line beyond the image's length changes nothing
 pub components-enough : (im : List ℕ) (c k : ℕ) → length im + 1 ≤ k → componentsFrom im k c ≡ componentsFrom im (length im + 1) c

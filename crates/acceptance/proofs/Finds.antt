@@ -11,10 +11,10 @@ use Rattle.laws.proofs.Cases.{by-test, if-ind, if-true, if-false, if-ne, if-eq}
 use Rattle.field.specs.declared.record.Field.{Field}
 use Rattle.cmf.specs.Limits.{mostLinesOfTable, mostLines}
 use Rattle.cmf.specs.Readers.{evenFrom, titleAt, headAt, componentAt}
-use Rattle.cmf.specs.Places.{linesFrom, linesOf, componentsFrom, componentsOf}
+use Rattle.cmf.specs.Places.{linesFrom, linesOf, componentsFrom, componentsOf, heldBy}
 use Rattle.cmf.specs.Layouts.{Aligned}
 use Rattle.cmf.specs.Grammar.{Table, nextLine}
-use Rattle.cmf.proofs.Agreement.{Agree, HeadReads, ComponentReads, fieldsOf}
+use Rattle.cmf.proofs.Agreement.{Agree, HeadReads, ComponentReads}
 use Rattle.acceptance.specs.declared.index.Entry.{Entry}
 use Rattle.acceptance.specs.declared.state.Walk.{Walk}
 use Rattle.acceptance.specs.Check.{State, with, fine, refused, takeTitle, onTitle, onHead, onComponent, onComponents, onSubmenu, onBody, onLine, onLines, onTable}
@@ -104,7 +104,7 @@ module _ (im : List ℕ) (A : Agree im) (sheet most : ℕ) where
           end = componentAt im c .end
 
           fs : List Field
-          fs = fieldsOf (componentAt im c)
+          fs = heldBy (componentAt im c)
 
           aligned : Aligned im 0 at c
           aligned = A .even-aligned at c (record { stands = e; zeroed = w .padding }) (omega (arith, v .after, v .inside))

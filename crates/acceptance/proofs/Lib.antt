@@ -5,11 +5,11 @@ pub mod Parts
 pub mod Line
 pub mod Tables
 pub mod Accepted
-pub mod Unique
 pub mod Fields
 pub mod Reach
 pub mod Turns
 pub mod CodeSteps
+pub mod Places
 pub mod Acceptance
 pub mod Judging
 pub mod PartJudging

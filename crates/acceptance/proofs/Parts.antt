@@ -10,9 +10,9 @@ use Rattle.laws.specs.Choice.{if_then_else_}
 use Rattle.laws.proofs.Cases.{by-test, if-true, if-false}
 use Rattle.field.specs.declared.record.Field.{Field}
 use Rattle.cmf.specs.Readers.{evenFrom, componentAt}
-use Rattle.cmf.specs.Places.{componentsFrom}
+use Rattle.cmf.specs.Places.{componentsFrom, heldBy}
 use Rattle.cmf.specs.Layouts.{Aligned, Component, Components, lastBit}
-use Rattle.cmf.proofs.Agreement.{Agree, ComponentReads, fieldsOf}
+use Rattle.cmf.proofs.Agreement.{Agree, ComponentReads}
 use Rattle.acceptance.specs.declared.index.Entry.{Entry}
 use Rattle.acceptance.specs.Check.{State, fine, onComponent, onComponents}
 use Rattle.acceptance.proofs.Stood.{stood, put, put-put, Then, then-fine, then-is}
@@ -121,7 +121,7 @@ module _ (im : List ℕ) (A : Agree im) (sheet most : ℕ) where
       end = componentAt im c .end
 
       fs : List Field
-      fs = fieldsOf (componentAt im c)
+      fs = heldBy (componentAt im c)
 
       aligned : Aligned im 0 at c
       aligned = A .even-aligned at c (record { stands = e; zeroed = w .padding }) (omega (arith, r .after, r .inside))

@@ -14,7 +14,8 @@ use Rattle.cmf.specs.Limits.{mostLinesOfTable, mostLines}
 use Rattle.cmf.specs.Readers.{oddFrom, titleAt, headAt, componentAt}
 use Rattle.cmf.specs.Layouts.{Aligned, Component}
 use Rattle.cmf.specs.Grammar.{Head}
-use Rattle.cmf.proofs.Agreement.{Agree, HeadReads, PlaceIs, fieldsOf}
+use Rattle.cmf.specs.Places.{heldBy}
+use Rattle.cmf.proofs.Agreement.{Agree, HeadReads, PlaceIs}
 use Rattle.cmf.specs.declared.component.Component as read
 use Rattle.acceptance.specs.declared.index.Entry.{Entry}
 use Rattle.acceptance.specs.declared.state.Walk.{Walk}
@@ -124,11 +125,11 @@ module _ (im : List ℕ) (A : Agree im) (sheet most : ℕ) where
 
   -- a component without fault is taken with its field, if it is one
   part-goes :
-      (c : read.Component) (p at lines : ℕ) (es : List Entry) → c .refusal ≡ 0 → padded im at p ≡ true → Takes sheet most es (fieldsOf c) →
-      takeComponent im sheet most p c (stood at lines es) ≡ stood (c .end) lines (put es (fieldsOf c))
+      (c : read.Component) (p at lines : ℕ) (es : List Entry) → c .refusal ≡ 0 → padded im at p ≡ true → Takes sheet most es (heldBy c) →
+      takeComponent im sheet most p c (stood at lines es) ≡ stood (c .end) lines (put es (heldBy c))
   unfolding takeComponent takeField
   part-goes c p at lines es z d t =
-      if-ne (c .refusal) 6 _ _ (λ e. omega arith) ∙ if-true _ _ d ∙ by-test {A = chosen ≡ stood (c .end) lines (put es (fieldsOf c))} (c .holds) field plain
+      if-ne (c .refusal) 6 _ _ (λ e. omega arith) ∙ if-true _ _ d ∙ by-test {A = chosen ≡ stood (c .end) lines (put es (heldBy c))} (c .holds) field plain
     where
       s : State
       s = stood at lines es
@@ -144,10 +145,10 @@ module _ (im : List ℕ) (A : Agree im) (sheet most : ℕ) where
           else if c .refusal =? 0 then with s (passed (s .walk) (c .end))
           else with s (refused (s .walk) (c .refusal))
 
-      field : c .holds ≡ true → chosen ≡ stood (c .end) lines (put es (fieldsOf c))
+      field : c .holds ≡ true → chosen ≡ stood (c .end) lines (put es (heldBy c))
       field e = if-true _ _ e ∙ rw (if-true (c .field ∷ []) [] e) (go (rw (if-true (c .field ∷ []) [] e) at t))
 
-      plain : c .holds ≡ false → chosen ≡ stood (c .end) lines (put es (fieldsOf c))
+      plain : c .holds ≡ false → chosen ≡ stood (c .end) lines (put es (heldBy c))
       plain e = if-false _ _ e ∙ if-eq (c .refusal) 0 _ _ z ∙ rw (if-false (c .field ∷ []) [] e, append-nil)
 
   -- a component of the grammar is taken
@@ -163,7 +164,7 @@ module _ (im : List ℕ) (A : Agree im) (sheet most : ℕ) where
   pub record Taken (p at : ℕ) (es : List Entry) : Type 0 where
     pub refusal : componentAt im p .refusal ≡ 0
     pub padding : (at ≡ p → ⊥) → byteAt im at ≡ 0
-    pub takes : Takes sheet most es (fieldsOf (componentAt im p))
+    pub takes : Takes sheet most es (heldBy (componentAt im p))
 
   module _ (p at lines : ℕ) (es : List Entry) where
     abbrev u : State
