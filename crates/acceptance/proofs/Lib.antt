@@ -9,6 +9,7 @@ pub mod Fields
 pub mod Reach
 pub mod Turns
 pub mod CodeSteps
+pub mod Indexed
 pub mod Places
 pub mod Acceptance
 pub mod Judging

@@ -1,8 +1,11 @@
 -- The reached fields in an array of numbers, three to a field, as a list of entries in the order of the walk.
-use Prim.Native.Nat.{ℕ, zero, suc, _+_, _*_, _/_}
+use Prim.Native.Nat.{ℕ, zero, suc, _+_, _*_, _/_, _≤_}
+use mathlib.Core.Path.{_≡_}
 use mathlib.Core.List.{List, [], _∷_, _++_}
 use lib.ListN.{length, getD, set}
 use Rattle.laws.specs.Choice.{if_then_else_, _<?_}
+use Rattle.laws.specs.Overwrite.{fit}
+use Rattle.cmf.specs.Limits.{mostFields}
 use Rattle.acceptance.specs.Check.{State, state}
 use Rattle.acceptance.specs.declared.index.Entry.{Entry}
 use Rattle.acceptance.specs.declared.state.Walk.{Walk}
@@ -31,3 +34,16 @@ withEntry xs k e =
 -- the walk's state as the code has it
 abbrev pub seen : Walk → List ℕ → State
 seen w xs = state w (listed xs (w .fields))
+
+-- the numbers of entries, one entry after another
+unfoldable pub numbersOf : List Entry → List ℕ
+numbersOf [] = []
+numbersOf (e ∷ es) = e .place .0 ∷ e .from .0 ∷ e .size ∷ numbersOf es
+
+-- the whole array: the numbers of the reached fields, and zeros for as many more as there may be
+unfoldable pub indexOf : List Entry → List ℕ
+indexOf es = fit 0 (3 * mostFields) (numbersOf es)
+
+-- past its first k entries an array is zeros
+pub record Clean (k : ℕ) (xs : List ℕ) : Type 0 where
+  pub zeros : (i : ℕ) → 3 * k ≤ i → getD xs i 0 ≡ 0

@@ -1,6 +1,7 @@
 pub mod Example
 pub mod Agreement
 pub mod Turning
+pub mod Finding
 pub mod Usual
 pub mod Runs
 pub mod Titles

@@ -1,12 +1,15 @@
 -- The way through an image: the lines of a table, the components of a line and all components that a walk reaches, as lists of their places.
 use Prim.Native.Nat.{ℕ, zero, suc, _+_}
 use mathlib.Core.List.{List, [], _∷_, _++_}
+use mathlib.Core.Bool.{Bool}
 use lib.ListN.{length}
 use Rattle.laws.specs.Choice.{if_then_else_}
 use Rattle.field.specs.declared.record.Field.{Field}
 use Rattle.cmf.specs.Limits.{mostLinesOfTable, deepestTable, prologBytes}
 use Rattle.cmf.specs.Readers.{titleAt, headAt, componentAt}
 use Rattle.cmf.specs.declared.component.Component.{Component}
+use Rattle.cmf.specs.declared.place.Found.{Found}
+use Rattle.cmf.specs.declared.place.Found.the-variants.{At, Nothing}
 
 -- the lines from one on to the last of the table, at most k
 unfoldable pub linesFrom : List ℕ → ℕ → ℕ → List ℕ
@@ -22,9 +25,13 @@ unfoldable pub componentsFrom : List ℕ → ℕ → ℕ → List ℕ
 componentsFrom im zero c = []
 componentsFrom im (suc k) c = c ∷ (if componentAt im c .last then [] else componentsFrom im k (componentAt im c .next))
 
--- the components of a line; each takes a byte at least, so that the image's length is enough
+-- the components from one on to the last of its line; each takes a byte at least, so that the image's length is enough
+abbrev pub lineFromHere : List ℕ → ℕ → List ℕ
+lineFromHere im c = componentsFrom im (length im + 1) c
+
+-- the components of a line
 unfoldable pub componentsOf : List ℕ → ℕ → List ℕ
-componentsOf im p = componentsFrom im (length im + 1) (headAt im p .component)
+componentsOf im p = lineFromHere im (headAt im p .component)
 
 -- the line k lines further on, and line k of a table, from 0; without meaning past the table's last line
 unfoldable pub lineFrom : List ℕ → ℕ → ℕ → ℕ
@@ -37,6 +44,21 @@ lineAt im t k = lineFrom im k (titleAt im t .line)
 -- how many lines a table has
 unfoldable pub lineCount : List ℕ → ℕ → ℕ
 lineCount im t = length (linesOf im t)
+
+-- ---- what is looked for
+
+-- a place that is found if a test passes
+abbrev pub foundIf : Bool → ℕ → Found
+foundIf t p = if t then At (record { 0 = p }) else Nothing
+
+-- the first editable one of some components
+unfoldable pub firstEditable : List ℕ → List ℕ → Found
+firstEditable im [] = Nothing
+firstEditable im (p ∷ ps) = if componentAt im p .editable then At (record { 0 = p }) else firstEditable im ps
+
+-- the editable component that follows one on its line; none follows the last
+unfoldable pub nextEditable : List ℕ → ℕ → Found
+nextEditable im p = if componentAt im p .last then Nothing else firstEditable im (lineFromHere im (componentAt im p .next))
 
 -- the field of a component that is one
 abbrev pub heldBy : Component → List Field

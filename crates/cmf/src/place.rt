@@ -1,19 +1,28 @@
-// The way through an image: lines of a table by their number.
+// The way through an image: lines of a table by their number, and editable components of a line.
 ghost use mathlib.Core.Path.{_≡_};
 ghost use mathlib.Core.Bool.{true};
 ghost use Prim.Native.Nat.{_+_, _<_, _≤_};
 ghost use lib.ListN.{length};
-ghost use Rattle.laws.specs.Choice.{_=?_};
+ghost use Rattle.laws.specs.Choice.{_=?_, _<?_};
 ghost use Rattle.laws.specs.Bytes.{wordAt};
 ghost use Rattle.cmf.specs.Readers.{tagBit, optionsEnd, textsFrom, headAt};
-ghost use Rattle.cmf.specs.Places.{lineAt, lineCount};
+ghost use Rattle.cmf.specs.Places.{lineAt, lineCount, foundIf, lineFromHere, firstEditable, nextEditable};
+use crate::component::read_component;
 use crate::head::Head;
 use crate::head::any_head;
+use crate::head::read_head;
 use crate::image::Image;
 use crate::image::word_in;
 use crate::text::read_texts;
 use crate::title::read_title;
+use field::kind::ImagePlace;
 use laws::room;
+
+// What is looked for in an image: it is at a place, or there is none.
+pub enum Found {
+    At(ImagePlace),
+    Nothing,
+}
 
 // Of a line's head what leads on: whether the line is the last of its table, and the place of the next line.
 struct Step {
@@ -22,7 +31,7 @@ struct Step {
 }
 
 impl Step {
-    // What the tag and the two bytes behind it say.
+    // What the tag and the two bytes after it say.
     fn read(image: &[u8], p: usize, tag: u8) -> Self
         requires { ⌜ p + 9 ≤ length (now image) ⌝ }
         ensures { λ r. ⌜ (r .last ≡ (tagBit 2 tag =? 1)) × (r .next ≡ p + wordAt (now (image .entry)) (p + 1)) ⌝ }
@@ -104,4 +113,56 @@ pub fn line_count(image: &[u8], table: usize) -> usize
         p = h.next;
     }
     n
+}
+
+// Line k of a table, from 0, if the table has so many; no line after it is looked at.
+pub fn reach(image: &[u8], table: usize, k: usize) -> Found
+    ensures { λ r. ⌜ r ≡ foundIf (k <? lineCount (now (image .entry)) table) (lineAt (now (image .entry)) table k) ⌝ }
+{
+    if Image::MAX_TABLE_LINES < k {
+        return Found::Nothing;
+    }
+    let title = read_title(image, table);
+    let mut p = title.line;
+    let mut left = k;
+    while 0 < left {
+        let h = read_head(image, p);
+        if h.last {
+            return Found::Nothing;
+        }
+        p = h.next;
+        left = left - 1;
+    }
+    Found::At(ImagePlace(p))
+}
+
+// The first editable component from one on to the last of its line.
+pub fn first_editable(image: &[u8], from: usize) -> Found
+    ensures { λ r. ⌜ r ≡ firstEditable (now (image .entry)) (lineFromHere (now (image .entry)) from) ⌝ }
+{
+    let mut p = from;
+    let mut left = image.len() + 1;
+    while 0 < left {
+        let c = read_component(image, p);
+        if c.editable {
+            return Found::At(ImagePlace(p));
+        }
+        if c.last {
+            return Found::Nothing;
+        }
+        p = c.next;
+        left = left - 1;
+    }
+    Found::Nothing
+}
+
+// The editable component that follows the one at a place on its line.
+pub fn next_editable(image: &[u8], place: usize) -> Found
+    ensures { λ r. ⌜ r ≡ nextEditable (now (image .entry)) place ⌝ }
+{
+    let c = read_component(image, place);
+    if c.last {
+        return Found::Nothing;
+    }
+    first_editable(image, c.next)
 }

@@ -2,11 +2,10 @@
 use native.Mathlib.Omega.{arith}
 use mathlib.Core.Path.{_≡_, refl, sym, _∙_}
 use borrow.Author.Needs.{needs}
-use Rattle.cmf.specs.Places.{componentsFrom}
-use Rattle.session.specs.Browsing.{firstEditable}
-use Rattle.session.proofs.Moving.{editable-here, editable-last, editable-next, editable-done}
-use Rattle.session.proofs.browse.first_editable.Statement.{statement}
-use Rattle.session.proofs.browse.first_editable.Tie as tie
+use Rattle.cmf.specs.Places.{componentsFrom, firstEditable}
+use Rattle.cmf.proofs.Finding.{editable-here, editable-last, editable-next, editable-done}
+use Rattle.cmf.proofs.place.first_editable.Statement.{statement}
+use Rattle.cmf.proofs.place.first_editable.Tie as tie
 
 abbrev Inv-loop : tie.InvT-loop
 Inv-loop image from p₀ left₀ p left = firstEditable image (componentsFrom image left p) ≡ firstEditable image (componentsFrom image left₀ p₀)

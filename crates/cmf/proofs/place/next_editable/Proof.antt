@@ -1,8 +1,8 @@
 -- What the callees ensure, put together.
-use Rattle.session.proofs.Visiting.{next-none, next-found}
+use Rattle.cmf.proofs.Finding.{next-none, next-found}
 use borrow.Author.Needs.{needs}
-use Rattle.session.proofs.visit.next_editable.Statement.{statement}
-use Rattle.session.proofs.visit.next_editable.Tie as tie
+use Rattle.cmf.proofs.place.next_editable.Statement.{statement}
+use Rattle.cmf.proofs.place.next_editable.Tie as tie
 
 read-component-requires : tie.Need-read-component-requires
 read-component-requires c κs = search needs
