@@ -150,14 +150,14 @@ count-fields n h w = if-ind P _ (λ _. refl) (λ _. if-ind P _ (λ _. refl) (λ 
     P : Walk → Type 0
     P r = r .fields ≡ w .fields
 
-line-fields : (im : List ℕ) (n before p : ℕ) (h : Head) (w : Walk) → takeLine im n before p h w .fields ≡ w .fields
+pub line-fields : (im : List ℕ) (n before p : ℕ) (h : Head) (w : Walk) → takeLine im n before p h w .fields ≡ w .fields
 unfolding takeLine
 line-fields im n before p h w = if-ind P _ (λ _. if-ind P _ (λ _. count-fields n h w) (λ _. refl)) (λ _. refl)
   where
     P : Walk → Type 0
     P r = r .fields ≡ w .fields
 
-title-fields : (t : Title) (w : Walk) → takeTitle t w .fields ≡ w .fields
+pub title-fields : (t : Title) (w : Walk) → takeTitle t w .fields ≡ w .fields
 unfolding takeTitle
 title-fields t w = if-ind (λ (r : Walk). r .fields ≡ w .fields) _ (λ _. refl) (λ _. refl)
 

@@ -13,8 +13,13 @@ use Rattle.laws.proofs.Cases.{by-test, if-ind, if-lt}
 use Rattle.laws.proofs.Lists.{getD-left, getD-right}
 use Rattle.laws.proofs.Overwriting.{length-fit, fit-at}
 use Rattle.cmf.specs.Limits.{mostFields}
+use Rattle.cmf.specs.declared.title.Title.{Title}
+use Rattle.cmf.specs.declared.head.Head.{Head}
 use Rattle.acceptance.specs.declared.index.Entry.{Entry}
-use Rattle.acceptance.specs.Index.{capacity, entryAt, listed, withEntry, numbersOf, indexOf, Clean}
+use Rattle.acceptance.specs.declared.state.Walk.{Walk}
+use Rattle.acceptance.specs.Check.{State, takeTitle, takeLine}
+use Rattle.acceptance.proofs.CodeSteps.{title-fields, line-fields}
+use Rattle.acceptance.specs.Index.{capacity, entryAt, listed, withEntry, seen, numbersOf, indexOf, Clean, StaysClean}
 
 -- ---- zeros
 
@@ -31,7 +36,29 @@ clean-set k xs e c =
     })
     (λ _. record { zeros = λ i h. c .zeros i (omega arith) })
 
+-- an array that no entry was set in
+fresh : (n i : ℕ) → getD (fit 0 n []) i 0 ≡ 0
+unfolding fit
+fresh zero i = refl
+fresh (suc n) zero = refl
+fresh (suc n) (suc i) = fresh n i
+
+pub clean-first : Clean 0 (indexOf [])
+unfolding indexOf numbersOf
+clean-first = record { zeros = λ i h. fresh (3 * mostFields) i }
+
+-- a title and a line's head are no field
+pub clean-title : (xs : List ℕ) (t : Title) (w : Walk) {v : Walk} → v ≡ takeTitle t w → Clean (w .fields) xs → Clean (v .fields) xs
+clean-title xs t w e c = rw (ap (λ (r : Walk). r .fields) e ∙ title-fields t w) c
+
+pub clean-head : (im xs : List ℕ) (n before p : ℕ) (h : Head) (w : Walk) {v : Walk} → v ≡ takeLine im n before p h w → Clean (w .fields) xs → Clean (v .fields) xs
+clean-head im xs n before p h w e c = rw (ap (λ (r : Walk). r .fields) e ∙ line-fields im n before p h w) c
+
 -- ---- numbers
+
+length-index : (es : List Entry) → length (indexOf es) ≡ 3 * mostFields
+unfolding indexOf
+length-index es = length-fit 0 (3 * mostFields) (numbersOf es)
 
 numbers-join : (es fs : List Entry) → numbersOf (es ++ fs) ≡ numbersOf es ++ numbersOf fs
 unfolding numbersOf
@@ -76,7 +103,7 @@ module _ (xs : List ℕ) where
       rw z (rw y at (entry-numbers k (i - 3 * k) (omega arith) (omega arith)))))
 
   -- the array is its entries' numbers and zeros
-  pub is-index : (k : ℕ) → length xs ≡ 3 * mostFields → Clean k xs → xs ≡ indexOf (listed xs k)
+  is-index : (k : ℕ) → length xs ≡ 3 * mostFields → Clean k xs → xs ≡ indexOf (listed xs k)
   unfolding indexOf
   is-index k l c =
       let n = numbersOf (listed xs k) in
@@ -86,3 +113,9 @@ module _ (xs : List ℕ) where
       (λ e. let g = ltb-false i (3 * k) e in
       c .zeros i g
       ∙ sym (fit-at 0 (3 * mostFields) n i (omega arith) ∙ List·getD-eq-default n 0 {n = i} (omega (arith, listed-long k)))))
+
+-- and so it is the index of the fields that the walk has taken
+pub settled : (s : State) (w : Walk) (xs ys : List ℕ) → xs ≡ indexOf [] → length ys ≡ length xs → StaysClean 0 xs (w .fields) ys → seen w ys ≡ s
+    → (seen w ys ≡ s) × (ys ≡ indexOf (s .fields))
+settled s w xs ys f l c e =
+    (e, is-index ys (w .fields) (l ∙ ap length f ∙ length-index []) (c (rw f clean-first)) ∙ ap (λ (t : State). indexOf (t .fields)) e)

@@ -6,7 +6,7 @@ ghost use Rattle.laws.specs.Bytes.{byteAt};
 ghost use lib.ListN.{length};
 ghost use Rattle.cmf.specs.Places.{componentsFrom};
 ghost use Rattle.acceptance.specs.Check.{padded, takeTitle, agrees, linePlaced, countLine, takeLine, takeField, takeComponent, onComponents, onLine, onTable, prologCode, checked};
-ghost use Rattle.acceptance.specs.Index.{capacity, seen};
+ghost use Rattle.acceptance.specs.Index.{capacity, seen, indexOf, StaysClean};
 use acceptance::index::Entry;
 use acceptance::index::apart_from;
 use acceptance::index::set_entry;
@@ -115,6 +115,7 @@ fn take_line(image: &[u8], n: usize, before: usize, p: usize, h: Head, w: Walk) 
 // A field: counted, its settings, its bytes in the sheet.
 fn take_field(sheet: usize, c: Component, w: Walk, index: &mut [usize]) -> Walk
     ensures { λ r. ⌜ seen r (now (index .exit)) ≡ takeField sheet (capacity (now (index .entry))) c (seen w (now (index .entry))) ⌝ }
+    ensures { λ r. ⌜ StaysClean (w .fields) (now (index .entry)) (r .fields) (now (index .exit)) ⌝ }
 {
     let k = w.fields;
     let field = c.field;
@@ -152,6 +153,7 @@ fn take_component(
     index: &mut [usize],
 ) -> Walk
     ensures { λ r. ⌜ seen r (now (index .exit)) ≡ takeComponent (now (image .entry)) sheet (capacity (now (index .entry))) p c (seen w (now (index .entry))) ⌝ }
+    ensures { λ r. ⌜ StaysClean (w .fields) (now (index .entry)) (r .fields) (now (index .exit)) ⌝ }
 {
     if c.refusal == 6 {
         return w.refused(6);
@@ -172,6 +174,7 @@ fn take_component(
 // The components of a line, the first of them at p.
 fn check_components(image: &[u8], sheet: usize, p: usize, w: Walk, index: &mut [usize]) -> Walk
     ensures { λ r. ⌜ seen r (now (index .exit)) ≡ onComponents (now (image .entry)) sheet (capacity (now (index .entry))) (componentsFrom (now (image .entry)) (length (now (image .entry)) + 1) p) (seen w (now (index .entry))) ⌝ }
+    ensures { λ r. ⌜ StaysClean (w .fields) (now (index .entry)) (r .fields) (now (index .exit)) ⌝ }
 {
     let mut v = w;
     let mut c = p;
@@ -203,6 +206,7 @@ fn check_line(
     index: &mut [usize],
 ) -> Walk
     ensures { λ r. ⌜ seen r (now (index .exit)) ≡ onLine (now (image .entry)) sheet (capacity (now (index .entry))) (onTable (now (image .entry)) sheet (capacity (now (index .entry))) below) n before p (seen w (now (index .entry))) ⌝ }
+    ensures { λ r. ⌜ StaysClean (w .fields) (now (index .entry)) (r .fields) (now (index .exit)) ⌝ }
 {
     let h = read_head(image, p);
     let v = take_line(image, n, before, p, h, w);
@@ -230,6 +234,7 @@ fn check_table(
     index: &mut [usize],
 ) -> Walk
     ensures { λ r. ⌜ seen r (now (index .exit)) ≡ onTable (now (image .entry)) sheet (capacity (now (index .entry))) left at (seen w (now (index .entry))) ⌝ }
+    ensures { λ r. ⌜ StaysClean (w .fields) (now (index .entry)) (r .fields) (now (index .exit)) ⌝ }
 {
     let t = read_title(image, at);
     let mut v = take_title(t, w);
@@ -306,9 +311,10 @@ fn has_pair(image: &[u8], at: usize, low: u8, high: u8) -> bool
     false
 }
 
-// The refusal number of an image for a sheet of so many bytes, 0 for none, and the fields that were reached.
+// The refusal number of an image for a sheet of so many bytes, 0 for none, and the fields that were reached, with zeros after them.
 pub fn check(image: &[u8], sheet: usize) -> Checked
     ensures { λ r. ⌜ seen (r .walk) (r .index) ≡ checked (now (image .entry)) sheet ⌝ }
+    ensures { λ r. ⌜ r .index ≡ indexOf (checked (now (image .entry)) sheet .fields) ⌝ }
 {
     let mut index = [0usize; INDEX];
     let start = Walk {

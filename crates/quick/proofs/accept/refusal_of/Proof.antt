@@ -16,7 +16,7 @@ check-requires c κs = search needs
 
 returns-2 : tie.Need-returns-2
 unfolding refusalOf
-returns-2 c = ap (λ (s : State). s .walk .refusal) (c .check .ensures)
+returns-2 c = ap (λ (s : State). s .walk .refusal) (c .check .ensures .0)
 
 pub refusal-of-spec : {M : Type 1} → statement M
 refusal-of-spec = tie.close (tie.spec is-accepted-requires returns check-requires returns-2)

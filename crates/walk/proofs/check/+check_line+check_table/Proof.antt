@@ -11,8 +11,9 @@ use Prim.Native.Nat.{ℕ, _+_, _-_, _/_, _<_}
 use mathlib.Core.Path.{_≡_, refl, sym, ap, _∙_}
 use lib.ListN.{length}
 use Rattle.acceptance.specs.Check.{onLines, onTable}
-use Rattle.acceptance.specs.Index.{capacity, seen}
+use Rattle.acceptance.specs.Index.{capacity, seen, StaysClean}
 use Rattle.cmf.specs.Places.{linesFrom}
+use Rattle.acceptance.proofs.Indexed.{clean-head, clean-title}
 use Rattle.acceptance.proofs.CodeSteps.{line-stop, line-bad, line-plain, line-deep, lines-stop, lines-last, lines-next, lines-done, table-stop, table-deep, table-lines}
 use borrow.Author.Needs.{needs}
 use Prim.Native.Nat.{ℕ, _<_}
@@ -89,7 +90,7 @@ check-line-returns : (t : ℕ) → check-line-lts.Need-returns (
   behind-reads.Asked,
   behind-reads.Learnt,
 ) (check-line-at t) check-line.Post
-check-line-returns t c = line-stop _ _ _ _ _ _ _ _ _ _ _ (c .before .before .before .read-head .ensures) (c .before .before .take-line .ensures) (c .if1 .taken)
+check-line-returns t c = (line-stop _ _ _ _ _ _ _ _ _ _ _ (c .before .before .before .read-head .ensures) (c .before .before .take-line .ensures) (c .if1 .taken), λ h. clean-head _ _ _ _ _ _ _ (c .before .before .take-line .ensures) h)
 
 check-line-check-components-requires : (t : ℕ) → check-line-lts.Need-check-components-requires (
   read-head-reads.Asked,
@@ -131,7 +132,7 @@ check-line-returns-2 : (t : ℕ) → check-line-lts.Need-returns-2 (
   behind-reads.Asked,
   behind-reads.Learnt,
 ) (check-line-at t) check-line.Post
-check-line-returns-2 t c = line-bad _ _ _ _ _ _ _ _ _ _ _ (c .before .before .before .before .before .before .before .before .before .read-head .ensures) (c .before .before .before .before .before .before .before .before .take-line .ensures) (c .before .before .before .before .before .before .if1 .left) _ (c .before .before .before .before .check-components .ensures) (c .if2 .taken)
+check-line-returns-2 t c = (line-bad _ _ _ _ _ _ _ _ _ _ _ (c .before .before .before .before .before .before .before .before .before .read-head .ensures) (c .before .before .before .before .before .before .before .before .take-line .ensures) (c .before .before .before .before .before .before .if1 .left) _ (c .before .before .before .before .check-components .ensures .0) (c .if2 .taken), λ h. c .before .before .before .before .check-components .ensures .1 (clean-head _ _ _ _ _ _ _ (c .before .before .before .before .before .before .before .before .take-line .ensures) h))
 
 check-line-check-table-requires : (t : ℕ) → check-line-lts.Need-check-table-requires (
   read-head-reads.Asked,
@@ -187,7 +188,7 @@ check-line-returns-3 : (t : ℕ) → check-line-lts.Need-returns-3 (
   behind-reads.Asked,
   behind-reads.Learnt,
 ) (check-line-at t) check-line.Post
-check-line-returns-3 t c = line-deep _ _ _ _ _ _ _ _ _ _ _ (c .before .before .before .before .before .before .before .before .before .before .before .before .before .before .before .read-head .ensures) (c .before .before .before .before .before .before .before .before .before .before .before .before .before .before .take-line .ensures) (c .before .before .before .before .before .before .before .before .before .before .before .before .if1 .left) _ (c .before .before .before .before .before .before .before .before .before .before .check-components .ensures) _ _ _ _ (ap (λ (n : ℕ). n / 3) (c .before .before .before .before .before .before .before .before .before .before .check-components .kept .1 .1 .1 .1 .0)) (c .before .before .before .before .before .before .if2 .left) (c .before .before .before .before .before .if3 .taken) (c .before .before .before .check-table .ensures) (c .behind .ensures)
+check-line-returns-3 t c = (line-deep _ _ _ _ _ _ _ _ _ _ _ (c .before .before .before .before .before .before .before .before .before .before .before .before .before .before .before .read-head .ensures) (c .before .before .before .before .before .before .before .before .before .before .before .before .before .before .take-line .ensures) (c .before .before .before .before .before .before .before .before .before .before .before .before .if1 .left) _ (c .before .before .before .before .before .before .before .before .before .before .check-components .ensures .0) _ _ _ _ (ap (λ (n : ℕ). n / 3) (c .before .before .before .before .before .before .before .before .before .before .check-components .kept .1 .1 .1 .1 .0)) (c .before .before .before .before .before .before .if2 .left) (c .before .before .before .before .before .if3 .taken) (c .before .before .before .check-table .ensures .0) (c .behind .ensures), λ h. rw (c .behind .ensures) (c .before .before .before .check-table .ensures .1 (c .before .before .before .before .before .before .before .before .before .before .check-components .ensures .1 (clean-head _ _ _ _ _ _ _ (c .before .before .before .before .before .before .before .before .before .before .before .before .before .before .take-line .ensures) h))))
 
 check-line-same-length-3 : (t : ℕ) → check-line-lts.Need-same-length-3 (
   read-head-reads.Asked,
@@ -215,10 +216,10 @@ check-line-returns-4 : (t : ℕ) → check-line-lts.Need-returns-4 (
   behind-reads.Asked,
   behind-reads.Learnt,
 ) (check-line-at t) check-line.Post
-check-line-returns-4 t c = line-plain _ _ _ _ _ _ _ _ _ _ _ (c .before .before .before .before .before .before .before .before .before .before .read-head .ensures) (c .before .before .before .before .before .before .before .before .before .take-line .ensures) (c .before .before .before .before .before .before .before .if1 .left) _ (c .before .before .before .before .before .check-components .ensures) (c .before .if2 .left) (c .if3 .left)
+check-line-returns-4 t c = (line-plain _ _ _ _ _ _ _ _ _ _ _ (c .before .before .before .before .before .before .before .before .before .before .read-head .ensures) (c .before .before .before .before .before .before .before .before .before .take-line .ensures) (c .before .before .before .before .before .before .before .if1 .left) _ (c .before .before .before .before .before .check-components .ensures .0) (c .before .if2 .left) (c .if3 .left), λ h. c .before .before .before .before .before .check-components .ensures .1 (clean-head _ _ _ _ _ _ _ (c .before .before .before .before .before .before .before .before .before .take-line .ensures) h))
 
 abbrev check-table-Inv-loop : check-table-lts.InvT-loop
-check-table-Inv-loop image sheet left at index₀ v₀ below n₀ before₀ p₀ index v n before p = (onLines image sheet (capacity index₀) (onTable image sheet (capacity index₀) below) 0 0 (linesFrom image 100 p₀) (seen v₀ index₀) ≡ onLines image sheet (capacity index₀) (onTable image sheet (capacity index₀) below) n before (linesFrom image (100 - n) p) (seen v index)) × (length index ≡ length index₀)
+check-table-Inv-loop image sheet left at index₀ v₀ below n₀ before₀ p₀ index v n before p = (onLines image sheet (capacity index₀) (onTable image sheet (capacity index₀) below) 0 0 (linesFrom image 100 p₀) (seen v₀ index₀) ≡ onLines image sheet (capacity index₀) (onTable image sheet (capacity index₀) below) n before (linesFrom image (100 - n) p) (seen v index)) × (length index ≡ length index₀) × StaysClean (v₀ .fields) index₀ (v .fields) index
 
 abbrev check-table-μ-loop : check-table-lts.MeasureT-loop
 check-table-μ-loop image sheet left at index₀ v₀ below n₀ before₀ p₀ index v n before p = 100 - n
@@ -263,7 +264,7 @@ check-table-returns : (t : ℕ) → check-table-lts.Need-returns (
   read-head-reads.Asked,
   read-head-reads.Learnt,
 ) (check-table-at t) check-table.Post check-table-Inv-loop check-table-μ-loop
-check-table-returns t c = table-stop _ _ _ _ _ _ _ _ _ (c .before .before .before .read-title .ensures) (c .before .before .take-title .ensures) (c .if1 .taken)
+check-table-returns t c = (table-stop _ _ _ _ _ _ _ _ _ (c .before .before .before .read-title .ensures) (c .before .before .take-title .ensures) (c .if1 .taken), λ h. clean-title _ _ _ (c .before .before .take-title .ensures) h)
 
 check-table-refused-requires : (t : ℕ) → check-table-lts.Need-refused-requires (
   read-title-reads.Asked,
@@ -291,7 +292,7 @@ check-table-returns-2 : (t : ℕ) → check-table-lts.Need-returns-2 (
   read-head-reads.Asked,
   read-head-reads.Learnt,
 ) (check-table-at t) check-table.Post check-table-Inv-loop check-table-μ-loop
-check-table-returns-2 t c = table-deep _ _ _ _ _ _ _ _ _ (c .before .before .before .before .before .read-title .ensures) (c .before .before .before .before .take-title .ensures) _ (c .before .before .if1 .left) (c .before .if2 .taken) (c .refused .ensures)
+check-table-returns-2 t c = (table-deep _ _ _ _ _ _ _ _ _ (c .before .before .before .before .before .read-title .ensures) (c .before .before .before .before .take-title .ensures) _ (c .before .before .if1 .left) (c .before .if2 .taken) (c .refused .ensures), λ h. rw (c .refused .ensures) (clean-title _ _ _ (c .before .before .before .before .take-title .ensures) h))
 
 check-table-sub-below : (t : ℕ) → check-table-lts.Need-sub-below (
   read-title-reads.Asked,
@@ -319,7 +320,7 @@ check-table-loop-holds : (t : ℕ) → check-table-lts.Need-loop-holds (
   read-head-reads.Asked,
   read-head-reads.Learnt,
 ) (check-table-at t) check-table.Post check-table-Inv-loop check-table-μ-loop
-check-table-loop-holds t c = (refl, refl)
+check-table-loop-holds t c = (refl, refl, λ h. h)
 
 check-table-add-loop : (t : ℕ) → check-table-lts.Need-add-loop (
   read-title-reads.Asked,
@@ -375,7 +376,7 @@ check-table-returns-3 : (t : ℕ) → check-table-lts.Need-returns-3 (
   read-head-reads.Asked,
   read-head-reads.Learnt,
 ) (check-table-at t) check-table.Post check-table-Inv-loop check-table-μ-loop
-check-table-returns-3 t c = sym (table-lines _ _ _ _ _ _ _ _ _ (c .before .before .before .before .before .before .before .before .before .before .before .before .read-title .ensures) (c .before .before .before .before .before .before .before .before .before .before .before .take-title .ensures) (c .before .before .before .before .before .before .before .before .before .if1 .left) (c .before .before .before .before .before .before .before .before .if2 .left) ∙ c .before .before .before .before .before .before .before .loop .inv .0 ∙ lines-stop _ _ _ _ _ _ _ _ _ _ (c .before .before .before .before .before .before .loop-test .taken) (ap (λ (n : ℕ). n / 3) (c .before .before .before .before .before .before .before .loop .inv .1)) (c .before .before .before .before .check-line .ensures) (c .if3 .taken))
+check-table-returns-3 t c = (sym (table-lines _ _ _ _ _ _ _ _ _ (c .before .before .before .before .before .before .before .before .before .before .before .before .read-title .ensures) (c .before .before .before .before .before .before .before .before .before .before .before .take-title .ensures) (c .before .before .before .before .before .before .before .before .before .if1 .left) (c .before .before .before .before .before .before .before .before .if2 .left) ∙ c .before .before .before .before .before .before .before .loop .inv .0 ∙ lines-stop _ _ _ _ _ _ _ _ _ _ (c .before .before .before .before .before .before .loop-test .taken) (ap (λ (n : ℕ). n / 3) (c .before .before .before .before .before .before .before .loop .inv .1)) (c .before .before .before .before .check-line .ensures .0) (c .if3 .taken)), λ h. c .before .before .before .before .check-line .ensures .1 (c .before .before .before .before .before .before .before .loop .inv .2 (clean-title _ _ _ (c .before .before .before .before .before .before .before .before .before .before .before .take-title .ensures) h)))
 
 check-table-read-head-requires : (t : ℕ) → check-table-lts.Need-read-head-requires (
   read-title-reads.Asked,
@@ -417,7 +418,7 @@ check-table-returns-4 : (t : ℕ) → check-table-lts.Need-returns-4 (
   read-head-reads.Asked,
   read-head-reads.Learnt,
 ) (check-table-at t) check-table.Post check-table-Inv-loop check-table-μ-loop
-check-table-returns-4 t c = sym (table-lines _ _ _ _ _ _ _ _ _ (c .before .before .before .before .before .before .before .before .before .before .before .before .before .before .read-title .ensures) (c .before .before .before .before .before .before .before .before .before .before .before .before .before .take-title .ensures) (c .before .before .before .before .before .before .before .before .before .before .before .if1 .left) (c .before .before .before .before .before .before .before .before .before .before .if2 .left) ∙ c .before .before .before .before .before .before .before .before .before .loop .inv .0 ∙ lines-last _ _ _ _ _ _ _ _ _ _ (c .before .before .before .before .before .before .before .before .loop-test .taken) (ap (λ (n : ℕ). n / 3) (c .before .before .before .before .before .before .before .before .before .loop .inv .1)) (c .before .before .before .before .before .before .check-line .ensures) _ (c .before .read-head .ensures) (c .before .before .if3 .left) (c .if4 .taken))
+check-table-returns-4 t c = (sym (table-lines _ _ _ _ _ _ _ _ _ (c .before .before .before .before .before .before .before .before .before .before .before .before .before .before .read-title .ensures) (c .before .before .before .before .before .before .before .before .before .before .before .before .before .take-title .ensures) (c .before .before .before .before .before .before .before .before .before .before .before .if1 .left) (c .before .before .before .before .before .before .before .before .before .before .if2 .left) ∙ c .before .before .before .before .before .before .before .before .before .loop .inv .0 ∙ lines-last _ _ _ _ _ _ _ _ _ _ (c .before .before .before .before .before .before .before .before .loop-test .taken) (ap (λ (n : ℕ). n / 3) (c .before .before .before .before .before .before .before .before .before .loop .inv .1)) (c .before .before .before .before .before .before .check-line .ensures .0) _ (c .before .read-head .ensures) (c .before .before .if3 .left) (c .if4 .taken)), λ h. c .before .before .before .before .before .before .check-line .ensures .1 (c .before .before .before .before .before .before .before .before .before .loop .inv .2 (clean-title _ _ _ (c .before .before .before .before .before .before .before .before .before .before .before .before .before .take-title .ensures) h)))
 
 check-table-add-n : (t : ℕ) → check-table-lts.Need-add-n (
   read-title-reads.Asked,
@@ -459,7 +460,7 @@ check-table-loop-again : (t : ℕ) → check-table-lts.Need-loop-again (
   read-head-reads.Asked,
   read-head-reads.Learnt,
 ) (check-table-at t) check-table.Post check-table-Inv-loop check-table-μ-loop
-check-table-loop-again t c = (c .before .before .before .before .before .before .before .before .before .loop .inv .0 ∙ lines-next _ _ _ _ _ _ _ _ _ _ (c .before .before .before .before .before .before .before .before .loop-test .taken) (ap (λ (n : ℕ). n / 3) (c .before .before .before .before .before .before .before .before .before .loop .inv .1)) (c .before .before .before .before .before .before .check-line .ensures) _ (c .before .read-head .ensures) (c .before .before .if3 .left) (c .if4 .left), c .before .before .before .before .before .before .check-line .kept .1 .1 .1 .1 .1 .1 .1 .0 ∙ c .before .before .before .before .before .before .before .before .before .loop .inv .1)
+check-table-loop-again t c = (c .before .before .before .before .before .before .before .before .before .loop .inv .0 ∙ lines-next _ _ _ _ _ _ _ _ _ _ (c .before .before .before .before .before .before .before .before .loop-test .taken) (ap (λ (n : ℕ). n / 3) (c .before .before .before .before .before .before .before .before .before .loop .inv .1)) (c .before .before .before .before .before .before .check-line .ensures .0) _ (c .before .read-head .ensures) (c .before .before .if3 .left) (c .if4 .left), c .before .before .before .before .before .before .check-line .kept .1 .1 .1 .1 .1 .1 .1 .0 ∙ c .before .before .before .before .before .before .before .before .before .loop .inv .1, λ h. c .before .before .before .before .before .before .check-line .ensures .1 (c .before .before .before .before .before .before .before .before .before .loop .inv .2 h))
 
 check-table-same-length-3 : (t : ℕ) → check-table-lts.Need-same-length-3 (
   read-title-reads.Asked,
@@ -487,7 +488,7 @@ check-table-returns-5 : (t : ℕ) → check-table-lts.Need-returns-5 (
   read-head-reads.Asked,
   read-head-reads.Learnt,
 ) (check-table-at t) check-table.Post check-table-Inv-loop check-table-μ-loop
-check-table-returns-5 t c = sym (table-lines _ _ _ _ _ _ _ _ _ (c .before .before .before .before .before .before .read-title .ensures) (c .before .before .before .before .before .take-title .ensures) (c .before .before .before .if1 .left) (c .before .before .if2 .left) ∙ c .before .loop .inv .0 ∙ lines-done _ _ _ _ _ _ _ _ (c .loop-test .left))
+check-table-returns-5 t c = (sym (table-lines _ _ _ _ _ _ _ _ _ (c .before .before .before .before .before .before .read-title .ensures) (c .before .before .before .before .before .take-title .ensures) (c .before .before .before .if1 .left) (c .before .before .if2 .left) ∙ c .before .loop .inv .0 ∙ lines-done _ _ _ _ _ _ _ _ (c .loop-test .left)), λ h. c .before .loop .inv .2 (clean-title _ _ _ (c .before .before .before .before .before .take-title .ensures) h))
 
 pub +check-line+check-table-spec : {M : Type 1} → statement M
 +check-line+check-table-spec = close μ-check-line μ-check-table (λ t. check-line-lts.spec (

@@ -12,7 +12,7 @@ refused-requires c κs = search needs
 
 returns : tie.Need-returns
 unfolding takeComponent if_then_else_
-returns c = simp (c .refused .ensures, eq-eqb _ _ (c .before .if1 .taken))
+returns c = (simp (c .refused .ensures, eq-eqb _ _ (c .before .if1 .taken)), λ h. rw (c .refused .ensures) h)
 
 is-padded-requires : tie.Need-is-padded-requires
 is-padded-requires c κs = search needs
@@ -22,7 +22,7 @@ refused-requires-2 c κs = search needs
 
 returns-2 : tie.Need-returns-2
 unfolding takeComponent if_then_else_
-returns-2 c = simp (c .refused2 .ensures, ne-eqb _ _ (c .before .before .before .if1 .left), via (c .before .before .is-padded .ensures) (not-true _ (c .before .if2 .taken)))
+returns-2 c = (simp (c .refused2 .ensures, ne-eqb _ _ (c .before .before .before .if1 .left), via (c .before .before .is-padded .ensures) (not-true _ (c .before .if2 .taken))), λ h. rw (c .refused2 .ensures) h)
 
 take-field-requires : tie.Need-take-field-requires
 take-field-requires c κs = search needs
@@ -32,21 +32,21 @@ same-length c = search needs
 
 returns-3 : tie.Need-returns-3
 unfolding takeComponent if_then_else_
-returns-3 c = simp (ne-eqb _ _ (c .before .before .before .before .before .before .before .if1 .left), via (c .before .before .before .before .before .before .is-padded .ensures) (not-false _ (c .before .before .before .before .before .if2 .left)), c .before .before .before .before .if3 .taken) (c .before .before .take-field .ensures)
+returns-3 c = (simp (ne-eqb _ _ (c .before .before .before .before .before .before .before .if1 .left), via (c .before .before .before .before .before .before .is-padded .ensures) (not-false _ (c .before .before .before .before .before .if2 .left)), c .before .before .before .before .if3 .taken) (c .before .before .take-field .ensures .0), c .before .before .take-field .ensures .1)
 
 refused-requires-3 : tie.Need-refused-requires-3
 refused-requires-3 c κs = search needs
 
 returns-4 : tie.Need-returns-4
 unfolding takeComponent if_then_else_
-returns-4 c = simp (c .refused3 .ensures, ne-eqb _ _ (c .before .before .before .before .before .before .if1 .left), via (c .before .before .before .before .before .is-padded .ensures) (not-false _ (c .before .before .before .before .if2 .left)), c .before .before .before .if3 .left, ne-eqb _ _ (c .before .if4 .taken))
+returns-4 c = (simp (c .refused3 .ensures, ne-eqb _ _ (c .before .before .before .before .before .before .if1 .left), via (c .before .before .before .before .before .is-padded .ensures) (not-false _ (c .before .before .before .before .if2 .left)), c .before .before .before .if3 .left, ne-eqb _ _ (c .before .if4 .taken)), λ h. rw (c .refused3 .ensures) h)
 
 passed-requires : tie.Need-passed-requires
 passed-requires c κs = search needs
 
 returns-5 : tie.Need-returns-5
 unfolding takeComponent if_then_else_
-returns-5 c = simp (c .passed .ensures, ne-eqb _ _ (c .before .before .before .before .before .before .if1 .left), via (c .before .before .before .before .before .is-padded .ensures) (not-false _ (c .before .before .before .before .if2 .left)), c .before .before .before .if3 .left, eq-eqb _ _ (c .before .if4 .left))
+returns-5 c = (simp (c .passed .ensures, ne-eqb _ _ (c .before .before .before .before .before .before .if1 .left), via (c .before .before .before .before .before .is-padded .ensures) (not-false _ (c .before .before .before .before .if2 .left)), c .before .before .before .if3 .left, eq-eqb _ _ (c .before .if4 .left)), λ h. rw (c .passed .ensures) h)
 
 pub take-component-spec : {M : Type 1} → statement M
 take-component-spec =
