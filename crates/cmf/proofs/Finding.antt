@@ -2,21 +2,37 @@
 -- as the last of the table has not been passed.
 use Prim.Native.Nat.{ℕ, zero, suc, _+_, _-_, _≤_, _<_}
 use mathlib.Core.Path.{_≡_, sym, ap, _∙_}
-use mathlib.Core.Bool.{true, false}
+use mathlib.Core.Bool.{Bool, true, false}
 use mathlib.Core.List.{List, []}
 use native.Mathlib.Omega.{arith}
 use lib.ListN.{length}
 use borrow.Author.Tests.{lt-ltb, le-ltb, ltb-true, ltb-false}
 use Rattle.laws.specs.Choice.{if_then_else_, _<?_}
 use Rattle.laws.proofs.Cases.{by-test, if-ind, if-true, if-false, if-lt, if-ge}
+use Rattle.field.specs.declared.kind.ImagePlace.{ImagePlace}
 use Rattle.cmf.specs.Readers.{titleAt, headAt, componentAt}
-use Rattle.cmf.specs.Places.{linesFrom, linesOf, componentsFrom, lineFrom, lineAt, lineCount, foundIf, lineFromHere, firstEditable, nextEditable}
+use Rattle.cmf.specs.Places.{linesFrom, linesOf, componentsFrom, lineFrom, lineAt, lineCount, foundIf, lineFound, lineFromHere, firstEditable, nextEditable}
 use Rattle.cmf.specs.declared.title.Title.{Title}
 use Rattle.cmf.specs.declared.head.Head.{Head}
 use Rattle.cmf.specs.declared.component.Component.{Component}
 use Rattle.cmf.specs.declared.place.Found.{Found}
 use Rattle.cmf.specs.declared.place.Found.the-variants.{At, Nothing}
 use Rattle.cmf.proofs.Turning.{line-turn}
+
+-- what is found by a test, taken apart
+pub found-none : {t : Bool} (p : ℕ) {f : Found} → f ≡ foundIf t p → f ≡ Nothing → t ≡ false
+found-none {t} p {f} e n = by-test t (λ y. let z : Nothing ≡ At (record { 0 = p }) = sym n ∙ e ∙ if-true _ _ y in absurd (no z)) (λ y. y)
+  where
+    no : Nothing ≡ At (record { 0 = p }) → ⊥
+    no z = let y : _≡_ {A = ℕ} 0 1 = cc in omega arith
+
+pub found-at : {t : Bool} {p : ℕ} {f : Found} (q : ImagePlace) → f ≡ foundIf t p → f ≡ At q → (t ≡ true) × (q .0 ≡ p)
+found-at {t} {p} {f} q e n =
+    by-test t (λ y. (y, let z : At q ≡ At (record { 0 = p }) = sym n ∙ e ∙ if-true _ _ y in let w : q ≡ record { 0 = p } = cc in ap (λ (i : ImagePlace). i .0) w))
+    (λ y. absurd (no (sym n ∙ e ∙ if-false _ _ y)))
+  where
+    no : At q ≡ Nothing → ⊥
+    no z = let y : _≡_ {A = ℕ} 0 1 = cc in omega arith
 
 -- ---- lines
 
@@ -43,7 +59,7 @@ module _ (im : List ℕ) where
   ahead m left p = foundIf (left <? length (linesFrom im (m + left) p)) (lineFrom im left p)
 
   -- no table has a line so far down
-  pub reach-far : (t k : ℕ) → 99 < k → Nothing ≡ foundIf (k <? lineCount im t) (lineAt im t k)
+  pub reach-far : (t k : ℕ) → 99 < k → Nothing ≡ lineFound im t k
   reach-far t k h = sym (if-ge k (lineCount im t) _ _ (omega (arith, lines-few im t)))
 
   module _ (m left p : ℕ) (h : Head) (l : 0 < left) (e : h ≡ headAt im p) where
@@ -73,7 +89,7 @@ module _ (im : List ℕ) where
       rw (y, z) (if-lt 0 (suc (length (if headAt im p .last then [] else linesFrom im (m - 1) (headAt im p .next)))) _ _ (omega arith))
 
   -- from the table's first line on
-  pub reach-first : (t k : ℕ) (h : Title) → h ≡ titleAt im t → k ≤ 99 → ahead (100 - k) k (h .line) ≡ foundIf (k <? lineCount im t) (lineAt im t k)
+  pub reach-first : (t k : ℕ) (h : Title) → h ≡ titleAt im t → k ≤ 99 → ahead (100 - k) k (h .line) ≡ lineFound im t k
   unfolding lineCount linesOf lineAt
   reach-first t k h e l = let z : 100 - k + k ≡ 100 = omega arith in rw (z, e)
 

@@ -1,9 +1,10 @@
--- The way through an image: the lines of a table, the components of a line and all components that a walk reaches, as lists of their places.
+-- The way through an image: the lines of a table, the components of a line and all components that a walk
+-- reaches, as lists of their places.
 use Prim.Native.Nat.{ℕ, zero, suc, _+_}
 use mathlib.Core.List.{List, [], _∷_, _++_}
 use mathlib.Core.Bool.{Bool}
 use lib.ListN.{length}
-use Rattle.laws.specs.Choice.{if_then_else_}
+use Rattle.laws.specs.Choice.{if_then_else_, _<?_}
 use Rattle.field.specs.declared.record.Field.{Field}
 use Rattle.cmf.specs.Limits.{mostLinesOfTable, deepestTable, prologBytes}
 use Rattle.cmf.specs.Readers.{titleAt, headAt, componentAt}
@@ -23,9 +24,11 @@ linesOf im t = linesFrom im (mostLinesOfTable + 1) (titleAt im t .line)
 -- the components from one on to the last of the line, at most k
 unfoldable pub componentsFrom : List ℕ → ℕ → ℕ → List ℕ
 componentsFrom im zero c = []
-componentsFrom im (suc k) c = c ∷ (if componentAt im c .last then [] else componentsFrom im k (componentAt im c .next))
+componentsFrom im (suc k) c =
+    c ∷ (if componentAt im c .last then [] else componentsFrom im k (componentAt im c .next))
 
--- the components from one on to the last of its line; each takes a byte at least, so that the image's length is enough
+-- the components from one on to the last of its line; each takes a byte at least, so that the image's length
+-- is enough
 abbrev pub lineFromHere : List ℕ → ℕ → List ℕ
 lineFromHere im c = componentsFrom im (length im + 1) c
 
@@ -51,6 +54,10 @@ lineCount im t = length (linesOf im t)
 abbrev pub foundIf : Bool → ℕ → Found
 foundIf t p = if t then At (record { 0 = p }) else Nothing
 
+-- line k of a table, if it has so many
+abbrev pub lineFound : List ℕ → ℕ → ℕ → Found
+lineFound im t k = foundIf (k <? lineCount im t) (lineAt im t k)
+
 -- the first editable one of some components
 unfoldable pub firstEditable : List ℕ → List ℕ → Found
 firstEditable im [] = Nothing
@@ -58,7 +65,8 @@ firstEditable im (p ∷ ps) = if componentAt im p .editable then At (record { 0 
 
 -- the editable component that follows one on its line; none follows the last
 unfoldable pub nextEditable : List ℕ → ℕ → Found
-nextEditable im p = if componentAt im p .last then Nothing else firstEditable im (lineFromHere im (componentAt im p .next))
+nextEditable im p =
+    if componentAt im p .last then Nothing else firstEditable im (lineFromHere im (componentAt im p .next))
 
 -- the field of a component that is one
 abbrev pub heldBy : Component → List Field

@@ -3,10 +3,10 @@ ghost use mathlib.Core.Path.{_≡_};
 ghost use mathlib.Core.Bool.{true};
 ghost use Prim.Native.Nat.{_+_, _<_, _≤_};
 ghost use lib.ListN.{length};
-ghost use Rattle.laws.specs.Choice.{_=?_, _<?_};
+ghost use Rattle.laws.specs.Choice.{_=?_};
 ghost use Rattle.laws.specs.Bytes.{wordAt};
 ghost use Rattle.cmf.specs.Readers.{tagBit, optionsEnd, textsFrom, headAt};
-ghost use Rattle.cmf.specs.Places.{lineAt, lineCount, foundIf, lineFromHere, firstEditable, nextEditable};
+ghost use Rattle.cmf.specs.Places.{lineAt, lineCount, lineFound, lineFromHere, firstEditable, nextEditable};
 use crate::component::read_component;
 use crate::head::Head;
 use crate::head::any_head;
@@ -117,7 +117,7 @@ pub fn line_count(image: &[u8], table: usize) -> usize
 
 // Line k of a table, from 0, if the table has so many; no line after it is looked at.
 pub fn reach(image: &[u8], table: usize, k: usize) -> Found
-    ensures { λ r. ⌜ r ≡ foundIf (k <? lineCount (now (image .entry)) table) (lineAt (now (image .entry)) table k) ⌝ }
+    ensures { λ r. ⌜ r ≡ lineFound (now (image .entry)) table k ⌝ }
 {
     if Image::MAX_TABLE_LINES < k {
         return Found::Nothing;

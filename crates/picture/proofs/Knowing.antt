@@ -12,7 +12,7 @@ use Rattle.cmf.specs.Limits.{mostLinesOfTable}
 use Rattle.cmf.specs.Readers.{titleAt, headAt}
 use Rattle.cmf.specs.Places.{linesFrom, linesOf, lineFrom, lineAt, lineCount}
 use Rattle.cmf.specs.declared.head.Head.{Head}
-use Rattle.session.proofs.Moving.{lines-few}
+use Rattle.cmf.proofs.Finding.{lines-few}
 use Rattle.session.specs.declared.session.Session.{Session}
 use Rattle.picture.specs.Rows.{moreMark, rowAt}
 

@@ -12,18 +12,17 @@ use Rattle.laws.proofs.Overwriting.{length-fit}
 use borrow.Author.Tests.{eqb-true, eqb-false}
 use Rattle.laws.proofs.Cases.{if-true, if-false, if-eq, if-ne, by-test}
 use Rattle.cmf.specs.Readers.{textBytes, headAt, componentAt}
-use Rattle.cmf.specs.Places.{componentsFrom, componentsOf, lineAt, lineCount}
+use Rattle.cmf.specs.Places.{componentsFrom, componentsOf, lineAt, lineCount, lineFromHere, firstEditable}
 use Rattle.cmf.specs.declared.head.Head.{Head}
 use Rattle.cmf.specs.declared.component.Component.{Component}
 use Rattle.session.specs.Fits.{cursorLine, cursorHead}
-use Rattle.session.specs.Browsing.{firstEditable, lineFromHere}
-use Rattle.session.proofs.Moving.{editable-here, editable-last, editable-next}
-use Rattle.session.specs.declared.browse.Found.{Found}
+use Rattle.cmf.specs.declared.place.Found.{Found}
+use Rattle.cmf.proofs.Finding.{editable-here, editable-last, editable-next}
 use Rattle.session.specs.declared.session.Level.{Level}
 use Rattle.session.specs.declared.session.Session.{Session}
 use Rattle.texts.specs.Row.{Put}
 use Rattle.texts.specs.Texts.{blank, star, colon, cellsText, fieldText}
-use Rattle.picture.specs.Rows.{greater, editMark, lineNumber, moreMark, titleRow, dot, prompt, passwordRow, visiting, componentText, dataText, submenuMark, lineRow}
+use Rattle.picture.specs.Rows.{greater, markOf, editMark, lineNumber, moreMark, titleRow, dot, prompt, passwordRow, visiting, componentText, dataText, submenuMark, lineRow}
 use Rattle.texts.proofs.Writing.{Rest, behind, same, rest-step, rest-end, padded, over-tail}
 
 -- ---- what one component shows
@@ -112,28 +111,19 @@ module _ (im : List ℕ) (l : Level) (h : Head) (f : Found) (e : h ≡ cursorHea
   unfolding componentsOf cursorHead
   first-is = g ∙ ap (λ (k : Head). firstEditable im (lineFromHere im (k .component))) e
 
-  pub mark-edit : f .found ≡ true → colon ≡ editMark im l
+  pub mark-is : {r : ℕ} → r ≡ markOf f → r ≡ editMark im l
   unfolding editMark
-  mark-edit t = sym (rw (← first-is) (if-true _ _ t))
-
-  pub mark-none : f .found ≡ false → star ≡ editMark im l
-  unfolding editMark
-  mark-none t = sym (rw (← first-is) (if-false _ _ t))
+  mark-is t = t ∙ ap markOf first-is
 
 -- ---- the mark of a line in row 0, as its row tells it
-
-abbrev pub markOf : Found → ℕ
-markOf f = if f .found then colon else star
 
 module _ (im : List ℕ) (left p : ℕ) (c : Component) (all : Found) (mark r : ℕ) (l : 0 < left) (e : c ≡ componentAt im p)
     (before : mark ≡ 0 → firstEditable im (componentsFrom im left p) ≡ all) (told : (mark ≡ 0 → ⊥) → mark ≡ markOf all)
     (q : r ≡ (if mark =? 0 then (if c .editable then colon else if c .last then star else 0) else mark)) where
   here-editable : mark ≡ 0 → c .editable ≡ true → r ≡ markOf all
-  unfolding if_then_else_
   here-editable z a = q ∙ if-eq mark 0 _ _ z ∙ if-true _ _ a ∙ rw (sym (before z) ∙ editable-here im left p c l e a)
 
   here-last : mark ≡ 0 → c .editable ≡ false → c .last ≡ true → r ≡ markOf all
-  unfolding if_then_else_
   here-last z a b = q ∙ if-eq mark 0 _ _ z ∙ if-false _ _ a ∙ if-true _ _ b ∙ rw (sym (before z) ∙ editable-last im left p c l e a b)
 
   here-none : mark ≡ 0 → c .editable ≡ false → c .last ≡ false → r ≡ 0

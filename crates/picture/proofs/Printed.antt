@@ -11,11 +11,10 @@ use Rattle.field.specs.Values.{numberOf}
 use Rattle.field.specs.Cells.{cellsOf, inSpan, within, legalTo, legal, inRange, workOf}
 use Rattle.field.specs.Settings.{goodSettings, settingsFit}
 use Rattle.cmf.specs.Readers.{textsFrom, itemFrom, textBytes, titleBy, titleAt, headBy, headAt, fixedBytes, textCount, given, kindAt, defaultPlace, sheetPlaceAt, laidOut, componentBy, componentAt}
-use Rattle.cmf.specs.Places.{linesFrom, linesOf, componentsFrom, componentsOf, lineFrom, lineAt, lineCount}
+use Rattle.cmf.specs.Places.{linesFrom, linesOf, componentsFrom, componentsOf, lineFrom, lineAt, lineCount, firstEditable}
 use Rattle.cmf.proofs.Example.{image}
 use Rattle.session.specs.Session.{opened}
 use Rattle.session.specs.Fits.{cursorHead}
-use Rattle.session.specs.Browsing.{firstEditable}
 use Rattle.texts.specs.Texts.{cellsText, fieldText}
 use Rattle.picture.specs.Rows.{visiting, componentText, editMark, lineNumber, moreMark, titleRow, topRowIn, dataText, submenuMark, lineRow, rowAt, rowsFrom, rowsBelow, pictureOf}
 

@@ -7,11 +7,12 @@ use Rattle.laws.specs.Choice.{if_then_else_, _=?_, _<?_, _≤?_}
 use Rattle.laws.specs.Bytes.{byteAt}
 use Rattle.laws.specs.Overwrite.{fit}
 use Rattle.cmf.specs.Readers.{textBytes, headAt, componentAt}
-use Rattle.cmf.specs.Places.{componentsOf, lineAt, lineCount}
+use Rattle.cmf.specs.Places.{componentsOf, lineAt, lineCount, firstEditable}
 use Rattle.cmf.specs.declared.head.Head.{Head}
 use Rattle.cmf.specs.declared.component.Component.{Component}
+use Rattle.cmf.specs.declared.place.Found.{Found}
+use Rattle.cmf.specs.declared.place.Found.the-variants.{At, Nothing}
 use Rattle.session.specs.Fits.{shapeFits, cursorLine, cursorHead}
-use Rattle.session.specs.Browsing.{firstEditable}
 use Rattle.laws.specs.Digits.{digit0}
 use Rattle.session.specs.declared.session.Level.{Level}
 use Rattle.session.specs.declared.session.Mode.{Mode}
@@ -33,9 +34,14 @@ capitalP = 0x50
 
 -- ---- row 0
 
--- whether ENTER would open a visit on the cursor line
+-- whether ENTER would open a visit: where an editable component is found
+abbrev pub markOf : Found → ℕ
+markOf (At p) = colon
+markOf Nothing = star
+
+-- on the cursor line
 unfoldable pub editMark : List ℕ → Level → ℕ
-editMark im l = if firstEditable im (componentsOf im (cursorLine im l)) .found then colon else star
+editMark im l = markOf (firstEditable im (componentsOf im (cursorLine im l)))
 
 -- a line's number, at most 99, right aligned in two cells
 unfoldable pub lineNumber : ℕ → List ℕ

@@ -1,16 +1,15 @@
 // The row of a line.
 ghost use mathlib.Core.Path.{_≡_};
 ghost use mathlib.Core.List.{_∷_};
-ghost use Prim.Native.Nat.{_+_, _≤_};
+ghost use Prim.Native.Nat.{_≤_};
 ghost use lib.ListN.{length};
 ghost use Rattle.laws.specs.Choice.{if_then_else_, _=?_};
 ghost use Rattle.laws.specs.Overwrite.{fit};
 ghost use Rattle.cmf.specs.Readers.{headAt};
-ghost use Rattle.cmf.specs.Places.{componentsFrom, componentsOf};
-ghost use Rattle.session.specs.Browsing.{firstEditable};
+ghost use Rattle.cmf.specs.Places.{componentsOf, lineFromHere, firstEditable};
 ghost use Rattle.texts.specs.Row.{Put};
 ghost use Rattle.texts.specs.Texts.{blank, star, colon};
-ghost use Rattle.picture.specs.Rows.{greater, dataText, submenuMark, lineRow};
+ghost use Rattle.picture.specs.Rows.{greater, markOf, dataText, submenuMark, lineRow};
 use crate::component::put_component;
 use cmf::component::read_component;
 use cmf::head::Head;
@@ -52,7 +51,12 @@ fn put_data(
     first: usize,
 ) -> Marked
     requires { ⌜ now cells ≡ session .work .cells ⌝ }
-    ensures { λ r. ⌜ Put (now (row .entry)) start (dataText (now (image .entry)) (now (sheet .entry)) session (componentsFrom (now (image .entry)) (length (now (image .entry)) + 1) first)) (now (row .exit)) (r .end) × ((r .mark ≡ 0 → ⊥) → r .mark ≡ if firstEditable (now (image .entry)) (componentsFrom (now (image .entry)) (length (now (image .entry)) + 1) first) .found then colon else star) ⌝ }
+    ensures { λ r. ⌜ Put
+        (now (row .entry)) start
+        (dataText (now (image .entry)) (now (sheet .entry)) session (lineFromHere (now (image .entry)) first))
+        (now (row .exit)) (r .end)
+        × ((r .mark ≡ 0 → ⊥)
+        → r .mark ≡ markOf (firstEditable (now (image .entry)) (lineFromHere (now (image .entry)) first))) ⌝ }
 {
     let mut at = start;
     let mut mark = 0;
@@ -109,8 +113,12 @@ fn put_start(
     first: usize,
 ) -> u8
     requires { ⌜ now cells ≡ session .work .cells ⌝ }
-    ensures { λ r. ⌜ ((r ≡ 0 → ⊥) → r ≡ if firstEditable (now (image .entry)) (componentsFrom (now (image .entry)) (length (now (image .entry)) + 1) first) .found then colon else star) ⌝ }
-    ensures { λ _. ⌜ now (row .exit) ≡ fit blank (length (now (row .entry))) ((if k =? session .here .cursor then greater else blank) ∷ dataText (now (image .entry)) (now (sheet .entry)) session (componentsFrom (now (image .entry)) (length (now (image .entry)) + 1) first)) ⌝ }
+    ensures { λ r. ⌜ ((r ≡ 0 → ⊥)
+        → r ≡ markOf (firstEditable (now (image .entry)) (lineFromHere (now (image .entry)) first))) ⌝ }
+    ensures { λ _. ⌜ now (row .exit)
+        ≡ fit blank (length (now (row .entry)))
+        ((if k =? session .here .cursor then greater else blank)
+        ∷ dataText (now (image .entry)) (now (sheet .entry)) session (lineFromHere (now (image .entry)) first)) ⌝ }
 {
     let start = put(&mut *row, 0, cursor_mark(k, session.here.cursor));
     let data = put_data(&mut *row, start, image, sheet, session, cells, first);
@@ -130,7 +138,8 @@ pub(crate) fn put_line(
     h: Head,
 ) -> u8
     requires { ⌜ (2 ≤ session .columns) × (length (now row) ≡ session .columns) × (now cells ≡ session .work .cells) × (h ≡ headAt (now image) p) ⌝ }
-    ensures { λ r. ⌜ ((r ≡ 0 → ⊥) → r ≡ if firstEditable (now (image .entry)) (componentsOf (now (image .entry)) p) .found then colon else star) ⌝ }
+    ensures { λ r. ⌜ ((r ≡ 0 → ⊥)
+        → r ≡ markOf (firstEditable (now (image .entry)) (componentsOf (now (image .entry)) p))) ⌝ }
     ensures { λ _. ⌜ now (row .exit) ≡ lineRow (now (image .entry)) (now (sheet .entry)) session k p ⌝ }
 {
     let end = session.columns as usize - 1;

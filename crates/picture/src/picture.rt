@@ -7,19 +7,18 @@ ghost use Rattle.laws.specs.Choice.{if_then_else_, _=?_, _<?_, _≤?_};
 ghost use Rattle.laws.specs.Overwrite.{over};
 ghost use Rattle.cmf.specs.Limits.{mostLinesOfTable};
 ghost use Rattle.cmf.specs.Readers.{headAt};
-ghost use Rattle.cmf.specs.Places.{componentsOf, lineAt, lineCount};
-ghost use Rattle.session.specs.Browsing.{firstEditable};
-ghost use Rattle.texts.specs.Texts.{star, colon};
+ghost use Rattle.cmf.specs.Places.{componentsOf, lineAt, lineCount, firstEditable};
 ghost use Rattle.session.specs.Fits.{shapeFits, cursorLine};
-ghost use Rattle.picture.specs.Rows.{editMark, moreMark, rowAt, rowsBelow, pictureOf, filled};
+ghost use Rattle.picture.specs.Rows.{markOf, editMark, moreMark, rowAt, rowsBelow, pictureOf, filled};
 use crate::line::put_line;
 use crate::title::put_top;
 use cmf::head::Head;
 use cmf::head::read_head;
 use cmf::image::Image;
+use cmf::place::Found;
 use cmf::place::line_at;
 use cmf::place::line_count;
-use session::fits::reach;
+use cmf::place::reach;
 use session::fits::shape_fits;
 use session::session::Level;
 use session::session::Session;
@@ -38,17 +37,17 @@ fn known_to(image: &[u8], table: usize, k: usize) -> Known
     ensures { λ r. ⌜ (r .count ≡ min (k + 1) (lineCount (now (image .entry)) table)) × (r .place ≡ lineAt (now (image .entry)) table k) ⌝ }
 {
     let line = reach(image, table, k);
-    if line.there {
-        return Known {
+    match line {
+        Found::At(p) => Known {
             count: k + 1,
-            place: line.place,
+            place: p.0,
             mark: 0,
-        };
-    }
-    Known {
-        count: line_count(image, table),
-        place: line_at(image, table, k),
-        mark: 0,
+        },
+        Found::Nothing => Known {
+            count: line_count(image, table),
+            place: line_at(image, table, k),
+            mark: 0,
+        },
     }
 }
 
@@ -112,7 +111,8 @@ fn put_row(
     h: Head,
 ) -> u8
     requires { ⌜ (2 ≤ session .columns) × (length (now row) ≡ session .columns) × (now cells ≡ session .work .cells) × (h ≡ headAt (now image) p) ⌝ }
-    ensures { λ r. ⌜ ((r ≡ 0 → ⊥) → r ≡ if firstEditable (now (image .entry)) (componentsOf (now (image .entry)) p) .found then colon else star) ⌝ }
+    ensures { λ r. ⌜ ((r ≡ 0 → ⊥)
+        → r ≡ markOf (firstEditable (now (image .entry)) (componentsOf (now (image .entry)) p))) ⌝ }
     ensures { λ _. ⌜ now (row .exit) ≡ rowAt (now (image .entry)) (now (sheet .entry)) session count k p ⌝ }
 {
     if k < count {

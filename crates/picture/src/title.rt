@@ -11,9 +11,10 @@ ghost use Rattle.laws.specs.Digits.{digit0};
 ghost use Rattle.texts.specs.Texts.{blank};
 ghost use Rattle.picture.specs.Rows.{editMark, lineNumber, moreMark, titleRow, passwordRow, topRow};
 use cmf::head::read_head;
+use cmf::place::Found;
+use cmf::place::first_editable;
 use cmf::text::text_bytes;
 use laws::byte_at;
-use session::browse::first_editable;
 use session::session::Level;
 use session::session::Mode;
 use session::session::Session;
@@ -33,10 +34,10 @@ fn edit_mark(image: &[u8], level: Level, line: usize, mark: u8) -> u8
     }
     let h = read_head(image, line);
     let f = first_editable(image, h.component);
-    if f.found {
-        return b':';
+    match f {
+        Found::At(_) => b':',
+        Found::Nothing => b'*',
     }
-    b'*'
 }
 
 fn more_mark(count: usize, rows: usize, cursor: u8) -> u8

@@ -1,7 +1,6 @@
 pub mod Sized
 pub mod Stepping
 pub mod Moving
-pub mod Reaching
 pub mod Entering
 pub mod Visiting
 pub mod Closed

@@ -11,12 +11,13 @@ use native.Mathlib.Decide.{ℕ-discrete}
 use Rattle.laws.specs.Choice.{if_then_else_, _and_, _≤?_, _<?_}
 use Rattle.laws.proofs.Cases.{if-eq, if-ne, and-true, and-false, and-i, and-second}
 use Rattle.cmf.specs.Readers.{headAt, componentAt}
-use Rattle.cmf.specs.Places.{componentsFrom, lineCount}
+use Rattle.cmf.specs.Places.{componentsFrom, lineCount, foundIf, lineFound}
 use Rattle.cmf.specs.declared.component.Component.{Component}
 use Rattle.cmf.specs.declared.head.Head.{Head}
 use Rattle.session.specs.Session.{noLevel}
-use Rattle.session.specs.Fits.{levelFits, levelsFit, cursorLine, cursorHead, among, digitsTo}
+use Rattle.session.specs.Fits.{shapeFits, levelFits, levelsFit, tablesFit, cursorLine, cursorHead, among, digitsTo, modeFits, sessionFits}
 use Rattle.session.specs.declared.session.Level.{Level}
+use Rattle.session.specs.declared.session.Session.{Session}
 
 pub and-none : (t : Bool) → t and false ≡ false
 unfolding _and_
@@ -47,11 +48,15 @@ module _ (im : List ℕ) (lines t : ℕ) (l : Level) where
     level-below h = fourth-none _ _ _ (le-ltb (l .cursor) (l .first + (lines - 1)) (omega arith))
 
     -- where the table is right and the cursor is among the lines shown, the cursor line decides
-    pub level-reached : l .table .0 ≡ t → l .first ≤ l .cursor → l .cursor < l .first + shown → (l .cursor <? lineCount im t) ≡ levelFits im lines t l
+    level-reached : l .table .0 ≡ t → l .first ≤ l .cursor → l .cursor < l .first + shown → (l .cursor <? lineCount im t) ≡ levelFits im lines t l
     unfolding levelFits
     level-reached q f h =
         let b : (l .cursor <? l .first + (lines - 1)) ≡ true = lt-ltb (l .cursor) (l .first + (lines - 1)) (omega arith) in
         sym (and-true _ (eq-eqb (l .table .0) t q) ∙ and-second (l .cursor <? lineCount im t) (and-i (le-leb (l .first) (l .cursor) f) b))
+
+    pub level-found : l .table .0 ≡ t → l .first ≤ l .cursor → l .cursor < l .first + shown
+        → lineFound im t (l .cursor) ≡ foundIf (levelFits im lines t l) (cursorLine im l)
+    level-found q f h = rw (level-reached q f h, q)
 
 module _ (im : List ℕ) (lines t : ℕ) (ls : List Level) (i n : ℕ) (here : Level) where
   abbrev rest : Bool
@@ -130,3 +135,18 @@ module _ (ds : List ℕ) where
 pub head-there : (im : List ℕ) (l m : Level) (p : ℕ) (h : Head) → m ≡ l → p ≡ cursorLine im m → h ≡ headAt im p → h ≡ cursorHead im l
 unfolding cursorHead
 head-there im l m p h e f g = g ∙ rw (f, e)
+
+-- ---- the clauses together
+
+module _ (im : List ℕ) (s : Session) where
+  pub fits-shape : shapeFits (s .columns) (s .lines) ≡ false → false ≡ sessionFits im s
+  unfolding sessionFits
+  fits-shape h = sym (and-false _ h)
+
+  pub fits-tables : shapeFits (s .columns) (s .lines) ≡ true → tablesFit im s ≡ false → false ≡ sessionFits im s
+  unfolding sessionFits
+  fits-tables h t = sym (and-true _ h ∙ and-false _ t)
+
+  pub fits-mode : {r : Bool} → shapeFits (s .columns) (s .lines) ≡ true → tablesFit im s ≡ true → r ≡ modeFits im s (s .mode) → r ≡ sessionFits im s
+  unfolding sessionFits
+  fits-mode h t e = e ∙ sym (and-true _ h ∙ and-true _ t)

@@ -11,15 +11,15 @@ use Rattle.field.specs.declared.kind.ImagePlace.{ImagePlace}
 use Rattle.field.specs.declared.work.Work.{Work}
 use Rattle.keys.specs.declared.press.Pressed.{Pressed}
 use Rattle.cmf.specs.Readers.{componentAt}
+use Rattle.cmf.specs.Places.{nextEditable}
+use Rattle.cmf.specs.declared.place.Found.{Found}
 use Rattle.cmf.specs.declared.component.Component.{Component}
 use Rattle.session.specs.Steps.{taken, withIdle, browsing}
-use Rattle.session.specs.Browsing.{foundNone, firstEditable, lineFromHere, visitAt}
-use Rattle.session.specs.Visits.{pressed, nextEditable, movedOn, followed, followedSheet, visitStep, visitSheet}
+use Rattle.session.specs.Visits.{pressed, movedTo, movedOn, followed, followedSheet, visitStep, visitSheet}
 use Rattle.session.specs.Event.{stepIn, sheetIn, stepOf, sheetOf}
 use Rattle.session.specs.declared.session.Mode.{Mode}
 use Rattle.session.specs.declared.session.Mode.the-variants as mode
 use Rattle.session.specs.declared.session.Session.{Session}
-use Rattle.session.specs.declared.browse.Found.{Found}
 use Rattle.session.specs.declared.step.Stepped.{Stepped}
 
 -- ---- keys that are no cursor key and no ENTER
@@ -35,23 +35,9 @@ module _ (k : Kind) (w : Work) (e : ℕ) (a : e ≡ 11 → ⊥) (b : e ≡ 12 �
 
 -- ---- the next component
 
-module _ (im : List ℕ) (p : ℕ) (c : Component) (e : c ≡ componentAt im p) where
-  pub next-none : c .last ≡ true → foundNone ≡ nextEditable im p
-  unfolding nextEditable
-  next-none h = sym (rw (← e) (if-true _ _ h))
-
-  pub next-found : (f : Found) → c .last ≡ false → f ≡ firstEditable im (lineFromHere im (c .next)) → f ≡ nextEditable im p
-  unfolding nextEditable
-  next-found f h g = g ∙ sym (rw (← e) (if-false _ _ h))
-
-module _ (im sheet : List ℕ) (s r : Session) (p : ℕ) (f : Found) (e : f ≡ nextEditable im p) where
-  pub moved-visit : f .found ≡ true → r ≡ visitAt im sheet s (f .place) → r ≡ movedOn im sheet s p
-  unfolding movedOn
-  moved-visit h g = g ∙ sym (rw (← e) (if-true _ _ h))
-
-  pub moved-end : f .found ≡ false → r ≡ browsing s → r ≡ movedOn im sheet s p
-  unfolding movedOn
-  moved-end h g = g ∙ sym (rw (← e) (if-false _ _ h))
+pub moved-is : (im sheet : List ℕ) (s r : Session) (p : ℕ) (f : Found) → f ≡ nextEditable im p → r ≡ movedTo im sheet s f → r ≡ movedOn im sheet s p
+unfolding movedOn
+moved-is im sheet s r p f e g = g ∙ ap (movedTo im sheet s) e
 
 -- ---- a step
 

@@ -1,21 +1,22 @@
 -- 01, Keys, browsing: one definition a key.
 use Prim.Native.Nat.{ℕ, _+_, _-_}
-use mathlib.Core.Bool.{true, false}
-use mathlib.Core.List.{List, [], _∷_}
-use lib.ListN.{length, getD, set}
+use mathlib.Core.List.{List}
+use lib.ListN.{getD, set}
 use Rattle.laws.specs.Choice.{if_then_else_, _=?_, _<?_}
 use Rattle.field.specs.Sheet.{begun}
+use Rattle.field.specs.declared.kind.ImagePlace.{ImagePlace}
 use Rattle.cmf.specs.Limits.{deepestTable}
 use Rattle.cmf.specs.Readers.{componentAt}
-use Rattle.cmf.specs.Places.{componentsFrom, lineCount}
+use Rattle.cmf.specs.Places.{componentsOf, lineCount, firstEditable}
+use Rattle.cmf.specs.declared.place.Found.{Found}
+use Rattle.cmf.specs.declared.place.Found.the-variants.{At, Nothing}
 use Rattle.session.specs.Session.{level, noLevel}
-use Rattle.session.specs.Fits.{cursorHead}
+use Rattle.session.specs.Fits.{cursorLine, cursorHead}
 use Rattle.session.specs.Steps.{taken, flash, withIdle, showing, withHere, visiting, entering}
 use Rattle.session.specs.Seconds.{browseSecond}
 use Rattle.session.specs.Events.{up, down, left, right, enter, second}
 use Rattle.session.specs.declared.session.Session.{Session}
 use Rattle.session.specs.declared.step.Stepped.{Stepped}
-use Rattle.session.specs.declared.browse.Found.{Found}
 
 -- ---- the cursor line
 
@@ -57,28 +58,17 @@ rightStep im s =
 
 -- ---- visits
 
-abbrev pub foundNone : Found
-foundNone = record { found = false; place = 0 }
-
--- the first editable one of some components
-unfoldable pub firstEditable : List ℕ → List ℕ → Found
-firstEditable im [] = foundNone
-firstEditable im (p ∷ ps) = if componentAt im p .editable then record { found = true; place = p } else firstEditable im ps
-
--- the components from one on to the last of its line
-abbrev pub lineFromHere : List ℕ → ℕ → List ℕ
-lineFromHere im p = componentsFrom im (length im + 1) p
-
 -- a visit begins with a copy of the field's value, or of its default where that is out of range
-abbrev pub visitAt : List ℕ → List ℕ → Session → ℕ → Session
-visitAt im sheet s p = visiting s (record { 0 = p }) (begun (componentAt im p .field) sheet)
+abbrev pub visitAt : List ℕ → List ℕ → Session → ImagePlace → Session
+visitAt im sheet s p = visiting s p (begun (componentAt im (p .0) .field) sheet)
 
--- ENTER opens a visit to the first editable component of the cursor line
+-- ENTER opens a visit to the first editable component of the cursor line, and flashes where there is none
+unfoldable pub enterAt : List ℕ → List ℕ → Session → Found → Stepped
+enterAt im sheet s (At p) = taken (visitAt im sheet s p)
+enterAt im sheet s Nothing = flash s
+
 unfoldable pub enterStep : List ℕ → List ℕ → Session → Stepped
-enterStep im sheet s =
-    if firstEditable im (lineFromHere im (cursorHead im (s .here) .component)) .found
-    then taken (visitAt im sheet s (firstEditable im (lineFromHere im (cursorHead im (s .here) .component)) .place))
-    else flash s
+enterStep im sheet s = enterAt im sheet s (firstEditable im (componentsOf im (cursorLine im (s .here))))
 
 -- ---- every event
 

@@ -13,11 +13,13 @@ use Rattle.keys.specs.declared.press.Pressed.{Pressed}
 use Rattle.keys.specs.declared.press.Outcome.{Outcome}
 use Rattle.keys.specs.declared.press.Outcome.the-variants as outcome
 use Rattle.cmf.specs.Readers.{componentAt}
+use Rattle.cmf.specs.Places.{nextEditable}
+use Rattle.cmf.specs.declared.place.Found.{Found}
+use Rattle.cmf.specs.declared.place.Found.the-variants.{At, Nothing}
 use Rattle.session.specs.Steps.{taken, flash, withIdle, browsing, visiting}
-use Rattle.session.specs.Browsing.{foundNone, firstEditable, lineFromHere, visitAt}
+use Rattle.session.specs.Browsing.{visitAt}
 use Rattle.session.specs.Events.{lastDigitKey, up, down, left, right, enter, second}
 use Rattle.session.specs.declared.session.Session.{Session}
-use Rattle.session.specs.declared.browse.Found.{Found}
 use Rattle.session.specs.declared.step.Answer.the-variants as answer
 use Rattle.session.specs.declared.step.Stepped.{Stepped}
 
@@ -32,15 +34,13 @@ pressed k w e =
     else if e ≤? lastDigitKey then key.digitKey (profileOf k) (cellOf k (w .at)) w e
     else key.flash w
 
--- the editable component that comes behind one on its line; none comes behind the last
-unfoldable pub nextEditable : List ℕ → ℕ → Found
-nextEditable im p =
-    if componentAt im p .last then foundNone else firstEditable im (lineFromHere im (componentAt im p .next))
-
 -- a visit is over: the next editable component of the line is visited, or editing ends
+unfoldable pub movedTo : List ℕ → List ℕ → Session → Found → Session
+movedTo im sheet s (At p) = visitAt im sheet s p
+movedTo im sheet s Nothing = browsing s
+
 unfoldable pub movedOn : List ℕ → List ℕ → Session → ℕ → Session
-movedOn im sheet s p =
-    if nextEditable im p .found then visitAt im sheet s (nextEditable im p .place) else browsing s
+movedOn im sheet s p = movedTo im sheet s (nextEditable im p)
 
 -- what follows from a key's outcome with this working copy. The last ENTER stores, and R28: a trigger that is passed by is no finished visit
 unfoldable pub followed : List ℕ → List ℕ → Session → ImagePlace → Field → Work → Outcome → Stepped

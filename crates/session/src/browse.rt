@@ -1,51 +1,18 @@
 // Browsing: one method a key.
 ghost use mathlib.Core.Path.{_≡_};
 ghost use Prim.Native.Nat.{_-_, _<_};
-ghost use Rattle.session.specs.Browsing.{firstFor, cursorOn, upStep, downStep, leftStep, descended, rightStep, firstEditable, lineFromHere, visitAt, enterStep, browseStep};
+ghost use Rattle.session.specs.Browsing.{firstFor, cursorOn, upStep, downStep, leftStep, descended, rightStep, visitAt, enterStep, browseStep};
 use crate::fits::less_one;
-use crate::fits::reach;
 use crate::session::Level;
 use crate::session::Mode;
 use crate::session::Session;
 use crate::step::Stepped;
 use cmf::component::read_component;
 use cmf::image::Image;
+use cmf::place::Found;
+use cmf::place::first_editable;
+use cmf::place::reach;
 use field::kind::ImagePlace;
-
-// Whether there is an editable component, and the place of the first.
-pub struct Found {
-    pub found: bool,
-    pub place: usize,
-}
-
-// The first editable component from one on to the last of its line.
-pub fn first_editable(image: &[u8], from: usize) -> Found
-    ensures { λ r. ⌜ r ≡ firstEditable (now (image .entry)) (lineFromHere (now (image .entry)) from) ⌝ }
-{
-    let mut p = from;
-    let mut left = image.len() + 1;
-    while 0 < left {
-        let c = read_component(image, p);
-        if c.editable {
-            return Found {
-                found: true,
-                place: p,
-            };
-        }
-        if c.last {
-            return Found {
-                found: false,
-                place: 0,
-            };
-        }
-        p = c.next;
-        left = left - 1;
-    }
-    Found {
-        found: false,
-        place: 0,
-    }
-}
 
 // The first shown line once the cursor stands on a line.
 fn first_for(rows: usize, cursor: u8, first: u8) -> u8
@@ -96,10 +63,10 @@ impl Session {
     {
         let cursor = self.here.cursor;
         let next = reach(image, self.here.table.0, cursor as usize + 1);
-        if next.there {
-            return self.cursor_on(cursor + 1).taken();
+        match next {
+            Found::At(_) => self.cursor_on(cursor + 1).taken(),
+            Found::Nothing => self.flash(),
         }
-        self.flash()
     }
 
     fn left(mut self) -> Stepped
@@ -151,14 +118,14 @@ impl Session {
     }
 
     // In a visit of the component at a place.
-    pub(crate) fn visit_at(self, image: &[u8], sheet: &[u8], place: usize) -> Self
+    pub(crate) fn visit_at(self, image: &[u8], sheet: &[u8], place: ImagePlace) -> Self
         ensures { λ r. ⌜ r ≡ visitAt (now (image .entry)) (now (sheet .entry)) self place ⌝ }
     {
-        let c = read_component(image, place);
+        let c = read_component(image, place.0);
         let field = c.field;
         let work = field.begin(sheet);
         let typed = self.typed;
-        self.doing(Mode::Visit(ImagePlace(place)), work, typed)
+        self.doing(Mode::Visit(place), work, typed)
     }
 
     fn enter(self, image: &[u8], sheet: &[u8]) -> Stepped
@@ -166,10 +133,10 @@ impl Session {
     {
         let h = self.here.cursor_head(image);
         let f = first_editable(image, h.component);
-        if f.found {
-            return self.visit_at(image, sheet, f.place).taken();
+        match f {
+            Found::At(p) => self.visit_at(image, sheet, p).taken(),
+            Found::Nothing => self.flash(),
         }
-        self.flash()
     }
 
     // A step while browsing.

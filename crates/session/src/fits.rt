@@ -1,11 +1,10 @@
 // Whether a session fits an image: clause by clause as the paper lists them.
 ghost use mathlib.Core.Path.{_≡_};
-ghost use mathlib.Core.Bool.{true, false};
 ghost use Prim.Native.Nat.{_-_};
 ghost use lib.ListN.{getD, take};
 ghost use Rattle.laws.specs.Choice.{_and_, _<?_};
 ghost use Rattle.cmf.specs.Limits.{prologBytes, deepestTable};
-ghost use Rattle.cmf.specs.Places.{componentsOf, lineAt, lineCount};
+ghost use Rattle.cmf.specs.Places.{componentsOf, foundIf};
 ghost use Rattle.session.specs.Session.{noLevel};
 ghost use Rattle.session.specs.Fits.{shapeFits, cursorLine, cursorHead, levelFits, levelsFit, among, workFits, visitFits, digitsTo, entryFits, sessionFits};
 use crate::session::Level;
@@ -15,8 +14,9 @@ use cmf::component::read_component;
 use cmf::head::Head;
 use cmf::head::read_head;
 use cmf::image::Image;
+use cmf::place::Found;
 use cmf::place::line_at;
-use cmf::title::read_title;
+use cmf::place::reach;
 use field::kind::ImagePlace;
 use field::kind::Kind;
 use field::table::profile_of;
@@ -49,47 +49,6 @@ pub(crate) fn less_one(lines: u8) -> usize
     (lines - 1) as usize
 }
 
-// Whether a table has a line, and where it stands; 0 where it has none.
-pub struct Reached {
-    pub there: bool,
-    pub place: usize,
-}
-
-impl Reached {
-    fn nowhere() -> Self
-        ensures { λ r. ⌜ (r .there ≡ false) × (r .place ≡ 0) ⌝ }
-    {
-        Reached {
-            there: false,
-            place: 0,
-        }
-    }
-}
-
-// Line k of a table, from 0; no line behind it is looked at.
-pub fn reach(image: &[u8], table: usize, k: usize) -> Reached
-    ensures { λ r. ⌜ (r .there ≡ (k <? lineCount (now (image .entry)) table)) × (r .there ≡ true → r .place ≡ lineAt (now (image .entry)) table k) × (r .there ≡ false → r .place ≡ 0) ⌝ }
-{
-    if Image::MAX_TABLE_LINES < k {
-        return Reached::nowhere();
-    }
-    let title = read_title(image, table);
-    let mut p = title.line;
-    let mut left = k;
-    while 0 < left {
-        let h = read_head(image, p);
-        if h.last {
-            return Reached::nowhere();
-        }
-        p = h.next;
-        left = left - 1;
-    }
-    Reached {
-        there: true,
-        place: p,
-    }
-}
-
 impl Level {
     // The place of the cursor line.
     pub fn cursor_line(self, image: &[u8]) -> usize
@@ -106,20 +65,21 @@ impl Level {
     }
 
     // Its cursor line, where it shows the table at a place.
-    fn shown(self, image: &[u8], lines: u8, table: usize) -> Reached
-        ensures { λ r. ⌜ (r .there ≡ levelFits (now (image .entry)) lines table self) × (r .there ≡ true → r .place ≡ cursorLine (now (image .entry)) self) ⌝ }
+    fn shown(self, image: &[u8], lines: u8, table: usize) -> Found
+        ensures { λ r. ⌜ r
+            ≡ foundIf (levelFits (now (image .entry)) lines table self) (cursorLine (now (image .entry)) self) ⌝ }
     {
         if self.table.0 != table {
-            return Reached::nowhere();
+            return Found::Nothing;
         }
         let cursor = self.cursor as usize;
         let first = self.first as usize;
         let shown = less_one(lines);
         if cursor < first {
-            return Reached::nowhere();
+            return Found::Nothing;
         }
         if first + shown <= cursor {
-            return Reached::nowhere();
+            return Found::Nothing;
         }
         reach(image, table, cursor)
     }
@@ -183,24 +143,27 @@ fn shown_line(
     outer: u8,
     above: [Level; Session::MAX_ABOVE],
     here: Level,
-) -> Reached
-    ensures { λ r. ⌜ (r .there ≡ ((outer <? deepestTable) and levelsFit (now (image .entry)) lines prologBytes (take outer above) here)) × (r .there ≡ true → r .place ≡ cursorLine (now (image .entry)) here) ⌝ }
+) -> Found
+    ensures { λ r. ⌜ r
+        ≡ foundIf
+        ((outer <? deepestTable) and levelsFit (now (image .entry)) lines prologBytes (take outer above) here)
+        (cursorLine (now (image .entry)) here) ⌝ }
 {
     let count = outer as usize;
     if Image::MAX_DEPTH <= count {
-        return Reached::nowhere();
+        return Found::Nothing;
     }
     let mut t = Image::PROLOG;
     let mut i = 0;
     while i < count {
         let l = above[i];
         let line = l.shown(image, lines, t);
-        if !line.there {
-            return Reached::nowhere();
-        }
-        let h = read_head(image, line.place);
+        let Found::At(p) = line else {
+            return Found::Nothing;
+        };
+        let h = read_head(image, p.0);
         if !h.submenu {
-            return Reached::nowhere();
+            return Found::Nothing;
         }
         t = h.table;
         i = i + 1;
@@ -269,19 +232,19 @@ impl Session {
         let above = self.above;
         let here = self.here;
         let line = shown_line(image, self.lines, self.outer, above, here);
-        if !line.there {
+        let Found::At(p) = line else {
             return false;
-        }
+        };
         let mode = self.mode;
         match mode {
             Mode::Browsing => true,
-            Mode::Visit(p) => {
+            Mode::Visit(place) => {
                 let work = self.work;
-                visit_fits(image, line.place, p.0, work)
+                visit_fits(image, p.0, place.0, work)
             }
             Mode::Password(n) => {
                 let typed = self.typed;
-                entry_fits(image, line.place, n, typed)
+                entry_fits(image, p.0, n, typed)
             }
         }
     }

@@ -2,15 +2,15 @@
 ghost use mathlib.Core.Path.{_≡_};
 ghost use Rattle.field.specs.Sheet.{finishedIn};
 ghost use Rattle.session.specs.Steps.{visiting};
-ghost use Rattle.session.specs.Visits.{pressed, nextEditable, movedOn, followed, followedSheet, visitStep, visitSheet};
+ghost use Rattle.session.specs.Visits.{pressed, movedOn, followed, followedSheet, visitStep, visitSheet};
 ghost use Rattle.keys.specs.declared.press.Outcome.the-variants as outcome;
-use crate::browse::Found;
-use crate::browse::first_editable;
 use crate::session::Mode;
 use crate::session::Session;
 use crate::step::Answer;
 use crate::step::Stepped;
 use cmf::component::read_component;
+use cmf::place::Found;
+use cmf::place::next_editable;
 use field::kind::ImagePlace;
 use field::kind::Kind;
 use field::record::Field;
@@ -46,20 +46,6 @@ fn press(kind: Kind, work: Work, event: u8) -> Pressed
     }
 }
 
-// The editable component that comes behind the one at a place.
-fn next_editable(image: &[u8], place: usize) -> Found
-    ensures { λ r. ⌜ r ≡ nextEditable (now (image .entry)) place ⌝ }
-{
-    let c = read_component(image, place);
-    if c.last {
-        return Found {
-            found: false,
-            place: 0,
-        };
-    }
-    first_editable(image, c.next)
-}
-
 impl Session {
     fn at_work(self, place: ImagePlace, work: Work) -> Self
         ensures { λ r. ⌜ r ≡ visiting self place work ⌝ }
@@ -73,12 +59,14 @@ impl Session {
         ensures { λ r. ⌜ r ≡ movedOn (now (image .entry)) (now (sheet .entry)) self place ⌝ }
     {
         let f = next_editable(image, place);
-        if f.found {
-            return self.visit_at(image, sheet, f.place);
+        match f {
+            Found::At(p) => self.visit_at(image, sheet, p),
+            Found::Nothing => {
+                let work = self.work;
+                let typed = self.typed;
+                self.doing(Mode::Browsing, work, typed)
+            }
         }
-        let work = self.work;
-        let typed = self.typed;
-        self.doing(Mode::Browsing, work, typed)
     }
 
     // The last ENTER: the field's own bytes are stored.

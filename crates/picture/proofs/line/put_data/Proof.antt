@@ -3,11 +3,10 @@ use mathlib.Core.Path.{_≡_, refl, ap, _∙_}
 use native.Mathlib.Omega.{arith}
 use lib.ListN.{length}
 use Rattle.laws.proofs.Overwriting.{length-over}
-use Rattle.cmf.specs.Places.{componentsFrom}
-use Rattle.session.specs.Browsing.{firstEditable}
-use Rattle.picture.specs.Rows.{dataText}
+use Rattle.cmf.specs.Places.{componentsFrom, firstEditable}
+use Rattle.picture.specs.Rows.{dataText, markOf}
 use Rattle.texts.proofs.Writing.{Rest, rest-start, rest-end}
-use Rattle.picture.proofs.Lines.{data-last, data-next, data-done, markOf, mark-told, mark-next}
+use Rattle.picture.proofs.Lines.{data-last, data-next, data-done, mark-told, mark-next}
 use borrow.Author.Needs.{needs}
 use Rattle.picture.proofs.line.put_data.Statement.{statement}
 use Rattle.picture.proofs.line.put_data.Tie as tie

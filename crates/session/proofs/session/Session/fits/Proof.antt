@@ -1,8 +1,10 @@
 -- Each return is the case of the definition that the tests on its path choose.
-use Rattle.laws.specs.Choice.{_and_}
+use Rattle.cmf.proofs.Finding.{found-none, found-at}
+use mathlib.Core.Path.{_∙_}
 use borrow.Author.Tests.{not-true, not-false}
 use Rattle.laws.proofs.Cases.{via}
-use Rattle.session.specs.Fits.{sessionFits, tablesFit, modeFits}
+use Rattle.session.specs.Fits.{tablesFit, modeFits}
+use Rattle.session.proofs.Stepping.{fits-shape, fits-tables, fits-mode}
 use borrow.Author.Needs.{needs}
 use Rattle.session.proofs.session.Session.fits.Statement.{statement}
 use Rattle.session.proofs.session.Session.fits.Tie as tie
@@ -11,18 +13,23 @@ shape-fits-requires : tie.Need-shape-fits-requires
 shape-fits-requires c κs = search needs
 
 returns : tie.Need-returns
-unfolding sessionFits _and_
-returns c = simp (via (c .before .shape-fits .ensures) (not-true _ (c .if1 .taken)))
+returns c = fits-shape _ (c .before .before .before .args .self) (via (c .before .shape-fits .ensures) (not-true _ (c .if1 .taken)))
 
 shown-line-requires : tie.Need-shown-line-requires
 shown-line-requires c κs = search needs
 
-returns-2 : tie.Need-returns-2
-unfolding sessionFits tablesFit _and_
-returns-2 c = simp (via (c .before .before .before .before .before .before .shape-fits .ensures) (not-false _ (c .before .before .before .before .before .if1 .left)), via (c .before .before .shown-line .ensures .0) (not-true (c .before .before .shown-line .result .there) (c .if2 .taken)))
+enum-known-line : tie.Need-enum-known-line
+enum-known-line c = search needs
 
 enum-told : tie.Need-enum-told
 enum-told c = search needs
+
+returns-2 : tie.Need-returns-2
+unfolding tablesFit
+returns-2 c = fits-tables _ (c .before .before .before .before .before .before .before .before .args .self) (via (c .before .before .before .before .before .before .shape-fits .ensures) (not-false _ (c .before .before .before .before .before .if1 .left))) (found-none _ (c .before .before .shown-line .ensures) (c .enum-told .given .1))
+
+enum-told-2 : tie.Need-enum-told-2
+enum-told-2 c = search needs
 
 enum-known-mode : tie.Need-enum-known-mode
 enum-known-mode c = search needs
@@ -37,16 +44,16 @@ entry-fits-requires : tie.Need-entry-fits-requires
 entry-fits-requires c κs = search needs
 
 returns-3 : tie.Need-returns-3
-unfolding sessionFits tablesFit modeFits _and_
-returns-3 c = simp (via (c .before .before .before .before .before .before .before .before .shape-fits .ensures) (not-false _ (c .before .before .before .before .before .before .before .if1 .left)), via (c .before .before .before .before .shown-line .ensures .0) (not-false (c .before .before .before .before .shown-line .result .there) (c .before .before .if2 .left)), c .enum-told .given .1)
+unfolding tablesFit modeFits
+returns-3 c = fits-mode _ (c .before .before .before .before .before .before .before .before .before .before .before .args .self) (via (c .before .before .before .before .before .before .before .before .before .shape-fits .ensures) (not-false _ (c .before .before .before .before .before .before .before .before .if1 .left))) (found-at _ (c .before .before .before .before .before .shown-line .ensures) (c .before .before .before .line .given .1) .0) (rw (c .enum-told2 .given .1))
 
 returns-4 : tie.Need-returns-4
-unfolding sessionFits tablesFit modeFits _and_
-returns-4 c = simp (via (c .before .before .before .before .before .before .before .before .before .before .before .shape-fits .ensures) (not-false _ (c .before .before .before .before .before .before .before .before .before .before .if1 .left)), via (c .before .before .before .before .before .before .before .shown-line .ensures .0) (not-false (c .before .before .before .before .before .before .before .shown-line .result .there) (c .before .before .before .before .before .if2 .left)), c .before .before .before .mode .given .1, c .visit-fits .ensures, c .before .before .before .before .before .before .before .shown-line .ensures .1 (not-false (c .before .before .before .before .before .before .before .shown-line .result .there) (c .before .before .before .before .before .if2 .left)))
+unfolding tablesFit modeFits
+returns-4 c = fits-mode _ (c .before .before .before .before .before .before .before .before .before .before .before .before .before .before .args .self) (via (c .before .before .before .before .before .before .before .before .before .before .before .before .shape-fits .ensures) (not-false _ (c .before .before .before .before .before .before .before .before .before .before .before .if1 .left))) (found-at _ (c .before .before .before .before .before .before .before .before .shown-line .ensures) (c .before .before .before .before .before .before .line .given .1) .0) (c .visit-fits .ensures ∙ rw (found-at _ (c .before .before .before .before .before .before .before .before .shown-line .ensures) (c .before .before .before .before .before .before .line .given .1) .1, c .before .before .before .mode .given .1))
 
 returns-5 : tie.Need-returns-5
-unfolding sessionFits tablesFit modeFits _and_
-returns-5 c = simp (via (c .before .before .before .before .before .before .before .before .before .before .before .shape-fits .ensures) (not-false _ (c .before .before .before .before .before .before .before .before .before .before .if1 .left)), via (c .before .before .before .before .before .before .before .shown-line .ensures .0) (not-false (c .before .before .before .before .before .before .before .shown-line .result .there) (c .before .before .before .before .before .if2 .left)), c .before .before .before .mode2 .given .1, c .entry-fits .ensures, c .before .before .before .before .before .before .before .shown-line .ensures .1 (not-false (c .before .before .before .before .before .before .before .shown-line .result .there) (c .before .before .before .before .before .if2 .left)))
+unfolding tablesFit modeFits
+returns-5 c = fits-mode _ (c .before .before .before .before .before .before .before .before .before .before .before .before .before .before .args .self) (via (c .before .before .before .before .before .before .before .before .before .before .before .before .shape-fits .ensures) (not-false _ (c .before .before .before .before .before .before .before .before .before .before .before .if1 .left))) (found-at _ (c .before .before .before .before .before .before .before .before .shown-line .ensures) (c .before .before .before .before .before .before .line .given .1) .0) (c .entry-fits .ensures ∙ rw (found-at _ (c .before .before .before .before .before .before .before .before .shown-line .ensures) (c .before .before .before .before .before .before .line .given .1) .1, c .before .before .before .mode2 .given .1))
 
 pub fits-spec : {M : Type 1} → statement M
 fits-spec =
@@ -55,8 +62,10 @@ fits-spec =
     shape-fits-requires
     returns
     shown-line-requires
-    returns-2
+    enum-known-line
     enum-told
+    returns-2
+    enum-told-2
     enum-known-mode
     visit-fits-requires
     enum-known-mode-2

@@ -1,5 +1,7 @@
--- What the callees ensure, put together.
-use Rattle.session.proofs.Visiting.{moved-visit, moved-end}
+-- What the callees ensure, put together, by what is found.
+use mathlib.Core.Path.{_∙_}
+use Rattle.session.specs.Visits.{movedTo}
+use Rattle.session.proofs.Visiting.{moved-is}
 use borrow.Author.Needs.{needs}
 use Rattle.session.proofs.session.Session.moved_on.Statement.{statement}
 use Rattle.session.proofs.session.Session.moved_on.Tie as tie
@@ -7,18 +9,34 @@ use Rattle.session.proofs.session.Session.moved_on.Tie as tie
 next-editable-requires : tie.Need-next-editable-requires
 next-editable-requires c κs = search needs
 
+enum-known-f : tie.Need-enum-known-f
+enum-known-f c = search needs
+
 visit-at-requires : tie.Need-visit-at-requires
 visit-at-requires c κs = search needs
 
-returns : tie.Need-returns
-returns c = moved-visit _ _ (c .before .before .before .before .before .args .self) _ _ _ (c .before .before .next-editable .ensures) (c .before .if1 .taken) (c .visit-at .ensures)
+enum-told : tie.Need-enum-told
+enum-told c = search needs
 
 doing-requires : tie.Need-doing-requires
 doing-requires c κs = search needs
 
+returns : tie.Need-returns
+unfolding movedTo
+returns c = moved-is _ _ (c .before .before .before .before .before .before .before .args .self) _ _ _ (c .before .before .before .before .next-editable .ensures) (c .visit-at .ensures ∙ rw (c .before .before .f .given .1))
+
 returns-2 : tie.Need-returns-2
-returns-2 c = moved-end _ _ (c .before .before .before .before .before .before .before .args .self) _ _ _ (c .before .before .before .before .next-editable .ensures) (c .before .before .before .if1 .left) (c .doing .ensures)
+unfolding movedTo
+returns-2 c = moved-is _ _ (c .before .before .before .before .before .before .before .before .args .self) _ _ _ (c .before .before .before .before .before .next-editable .ensures) (c .doing .ensures ∙ rw (c .before .before .before .enum-told .given .1))
 
 pub moved-on-spec : {M : Type 1} → statement M
 moved-on-spec =
-    tie.close (tie.spec next-editable-requires visit-at-requires returns doing-requires returns-2)
+    tie.close
+    (tie.spec
+    next-editable-requires
+    enum-known-f
+    visit-at-requires
+    enum-told
+    doing-requires
+    returns
+    returns-2)
