@@ -15,12 +15,10 @@ use Rattle.field.specs.declared.record.Field.{Field}
 use Rattle.cmf.specs.Layouts.{Texts, Component}
 use Rattle.cmf.specs.Grammar.{Every, WellFormed}
 use Rattle.cmf.specs.Readers.{itemFrom, itemPlace, componentAt}
-use Rattle.cmf.specs.declared.component.Component as read
-use Rattle.cmf.proofs.Agreement.{fieldsOf}
 use Rattle.cmf.proofs.Agreeing.{agree}
 use Rattle.acceptance.specs.Check.{entryOf, checked, refusalOf}
 use Rattle.acceptance.proofs.Acceptance.{accepted-exactly-when-well-formed, counted}
-use Rattle.acceptance.proofs.Fields.{every-table}
+use Rattle.acceptance.proofs.Fields.{held-is, every-table}
 use Rattle.handset.specs.OptionText.{reached, itemsIn, textRefusal, textAt, textPlace, optionText, ItemIs}
 use Rattle.handset.specs.declared.option.TextPlace.{TextPlace}
 use Rattle.handset.proofs.Ordering.{none-before, none-unless}
@@ -59,12 +57,6 @@ module _ (im : List ℕ) where
 
 -- ---- the items of a field
 
--- a component whose fields are one has that field
-field-of : (c : read.Component) (f : Field) → fieldsOf c ≡ f ∷ [] → c .field ≡ f
-field-of c f =
-    if-ind (λ (l : List Field). l ≡ f ∷ [] → c .field ≡ f) (c .holds) (λ _ e. cc)
-    (λ _ e. let z : _≡_ {A = ℕ} 0 1 = cc in absurd (omega arith))
-
 -- all items of the component at a place are in the image
 record Stands (im : List ℕ) (place : ℕ) : Type 0 where
   stands :
@@ -78,7 +70,7 @@ AllStand im fs = Every (λ (f : Field). Stands im (f .image .0)) fs
 -- a field that is no option has no items
 none-stand : (im : List ℕ) (end : ℕ) (f : Field) → itemsIn (f .kind) ≡ 0 → Component im (f .image .0) end (f ∷ []) → AllStand im (f ∷ [])
 none-stand im end f z c =
-    let k = field-of (componentAt im (f .image .0)) f (agree im .component-is c .fields) in
+    let k = held-is (componentAt im (f .image .0)) f (agree im .component-is c .fields) in
     Every.add {f = f} (record { stands = λ item h. absurd (omega (arith, rw (k, z) at h)) }) Every.none
 
 -- an option's items are texts of the grammar, and no other component has items
@@ -92,7 +84,7 @@ component-stands im at end fs (Component.date-long c l g) = none-stand im end _ 
 component-stands im at end fs (Component.date-short c l g) = none-stand im end _ refl (Component.date-short c l g)
 component-stands im at end fs (Component.switch c l g) = none-stand im end _ refl (Component.switch c l g)
 component-stands im at end fs (Component.option c l g) =
-    let k = field-of (componentAt im at) _ (agree im .component-is (Component.option c l g) .fields) in
+    let k = held-is (componentAt im at) _ (agree im .component-is (Component.option c l g) .fields) in
     Every.add (record { stands = λ item h. texts-stand im (l .items) item (rw k at h) }) Every.none
 component-stands im at end fs (Component.constant c b x) = Every.none
 component-stands im at end fs (Component.trigger c l) = none-stand im end _ refl (Component.trigger c l)

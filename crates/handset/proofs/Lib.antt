@@ -2,7 +2,6 @@ pub mod Ordering
 pub mod Finding
 pub mod Items
 pub mod Filling
-pub mod Filled
 pub mod Opening
 pub mod Defaults
 pub mod Stepping

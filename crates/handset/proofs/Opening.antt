@@ -6,14 +6,13 @@ use mathlib.Core.List.{List}
 use native.Mathlib.Omega.{arith}
 use lib.ListN.{length}
 use Rattle.laws.proofs.Cases.{if-eq, if-ne}
+use Rattle.cmf.specs.Places.{fieldsOf}
 use Rattle.acceptance.specs.Check.{refusalOf}
 use Rattle.session.specs.Session.{opened, closed}
 use Rattle.session.specs.Fits.{shapeFits}
 use Rattle.session.specs.declared.session.Session.{Session}
 use Rattle.handset.proofs.Ordering.{first-given, next-given, holding, failing}
-use Rattle.handset.proofs.Filled.{filled}
-use Rattle.handset.specs.Open.{openRefusal, openAnswer, openSheet}
-use Rattle.handset.specs.Fill.{imageDefaults}
+use Rattle.handset.specs.Open.{openRefusal, openAnswer, defaultsWritten, openSheet}
 use Rattle.handset.specs.declared.open.Opened.{Opened}
 
 abbrev answer : ℕ → Session → Opened
@@ -45,9 +44,9 @@ module _ (im : List ℕ) (columns lines : ℕ) where
       → (answer k closed ≡ openAnswer im (length s) columns lines) × (s ≡ openSheet im s columns lines)
   bad-image s k h e b = let r = shaped (length s) k h e in (by-refusal (length s) k r b, sheet-kept s k r b)
 
-  pub accepted : (s t : List ℕ) (k : ℕ) → shapeFits columns lines ≡ true → k ≡ refusalOf im (length s) → k ≡ 0 → t ≡ imageDefaults im s
+  pub accepted : (s t : List ℕ) (k : ℕ) → shapeFits columns lines ≡ true → k ≡ refusalOf im (length s) → k ≡ 0 → t ≡ defaultsWritten (fieldsOf im) s
       → (answer 0 (opened columns lines) ≡ openAnswer im (length s) columns lines) × (t ≡ openSheet im s columns lines)
   unfolding openAnswer openSheet
   accepted s t k h e z d =
       let r : openRefusal im (length s) columns lines ≡ 0 = shaped (length s) k h e ∙ z in
-      (rw (r, if-eq 0 0 (opened columns lines) closed refl), d ∙ filled im s (sym e ∙ z) ∙ sym (rw r (if-eq 0 0 _ _ refl)))
+      (rw (r, if-eq 0 0 (opened columns lines) closed refl), d ∙ sym (rw r (if-eq 0 0 _ _ refl)))

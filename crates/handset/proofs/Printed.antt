@@ -14,7 +14,7 @@ use Rattle.field.specs.Cells.{cellsOf, inSpan, within, legalTo, legal, inRange}
 use Rattle.field.specs.Settings.{goodSettings, settingsFit}
 use Rattle.field.specs.Sheet.{defaultWritten}
 use Rattle.cmf.specs.Readers.{textsFrom, titleBy, titleAt, headBy, headAt, fixedBytes, textCount, given, kindAt, defaultPlace, sheetPlaceAt, laidOut, componentBy, componentAt}
-use Rattle.cmf.specs.Places.{linesFrom, linesOf, componentsFrom, componentsOf, lineFrom, lineAt, lineCount}
+use Rattle.cmf.specs.Places.{linesFrom, linesOf, componentsFrom, componentsOf, lineFrom, lineAt, lineCount, lineReach, linesReach, tableReach, componentPlaces, fieldsAmong, fieldsOf}
 use Rattle.cmf.proofs.Example.{image}
 use Rattle.acceptance.specs.Check.{fine, andThen, padded, takeTitle, agrees, linePlaced, countLine, takeLine, inSheet, apart, apartFrom, takeField, takeComponent, onComponent, onComponents, onHead, onTitle, onSubmenu, onBody, onLine, onLines, onTable, walked, prologCode, checked, refusalOf}
 use Rattle.session.specs.Session.{opened}
@@ -31,7 +31,7 @@ unfolding openAnswer openRefusal _before_ _unless_ if_then_else_ _and_ wordAt ro
 opens = refl
 
 defaults : (b : ℕ) → openSheet image (b ∷ []) 16 4 ≡ 0 ∷ []
-unfolding openSheet defaultsWritten defaultWritten putAt openRefusal _before_ _unless_ if_then_else_ _and_ wordAt room fit fromLow numberFrom profileOf cellOf numberOf cellsOf inSpan within legalTo legal inRange goodSettings settingsFit textsFrom titleBy titleAt headBy headAt fixedBytes textCount given kindAt defaultPlace sheetPlaceAt laidOut componentBy componentAt linesFrom linesOf componentsFrom componentsOf fine andThen padded takeTitle agrees linePlaced countLine takeLine inSheet apart apartFrom takeField takeComponent onComponent onComponents onHead onTitle onSubmenu onBody onLine onLines onTable walked prologCode checked refusalOf shapeFits
+unfolding openSheet defaultsWritten lineReach linesReach tableReach componentPlaces fieldsAmong fieldsOf defaultWritten putAt openRefusal _before_ _unless_ if_then_else_ _and_ wordAt room fit fromLow numberFrom profileOf cellOf numberOf cellsOf inSpan within legalTo legal inRange goodSettings settingsFit textsFrom titleBy titleAt headBy headAt fixedBytes textCount given kindAt defaultPlace sheetPlaceAt laidOut componentBy componentAt linesFrom linesOf componentsFrom componentsOf fine andThen padded takeTitle agrees linePlaced countLine takeLine inSheet apart apartFrom takeField takeComponent onComponent onComponents onHead onTitle onSubmenu onBody onLine onLines onTable walked prologCode checked refusalOf shapeFits
 defaults b = refl
 
 draws : drawRefusal image 1 (opened 16 4) 64 ≡ 0

@@ -1,6 +1,5 @@
 pub mod Refusals
 pub mod Open
-pub mod Fill
 pub mod Event
 pub mod OptionText
 pub mod Draw

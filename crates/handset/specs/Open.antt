@@ -4,9 +4,9 @@ use mathlib.Core.List.{List, [], _∷_}
 use lib.ListN.{length}
 use Rattle.laws.specs.Choice.{if_then_else_, _=?_}
 use Rattle.field.specs.Sheet.{defaultWritten}
-use Rattle.cmf.specs.Readers.{componentAt}
-use Rattle.acceptance.specs.Check.{checked, refusalOf}
-use Rattle.acceptance.specs.declared.index.Entry.{Entry}
+use Rattle.field.specs.declared.record.Field.{Field}
+use Rattle.cmf.specs.Places.{fieldsOf}
+use Rattle.acceptance.specs.Check.{refusalOf}
 use Rattle.session.specs.Session.{opened, closed}
 use Rattle.session.specs.Fits.{shapeFits}
 use Rattle.handset.specs.Refusals.{_before_, _unless_}
@@ -23,12 +23,12 @@ openAnswer im sheet columns lines = record {
   session = if openRefusal im sheet columns lines =? 0 then opened columns lines else closed;
 }
 
--- the default of each reached field written, one after another; sheet bytes of no field stay
-unfoldable pub defaultsWritten : List ℕ → List Entry → List ℕ → List ℕ
-defaultsWritten im [] s = s
-defaultsWritten im (e ∷ es) s = defaultsWritten im es (defaultWritten (componentAt im (e .place .0) .field) s)
+-- the defaults of fields written, one after another; sheet bytes of no field stay
+unfoldable pub defaultsWritten : List Field → List ℕ → List ℕ
+defaultsWritten [] s = s
+defaultsWritten (f ∷ fs) s = defaultsWritten fs (defaultWritten f s)
 
--- the sheet after Open: a refused Open alters no byte
+-- the sheet after Open: the default of each field of the image is written; a refused Open alters no byte
 unfoldable pub openSheet : List ℕ → List ℕ → ℕ → ℕ → List ℕ
 openSheet im s columns lines =
-    if openRefusal im (length s) columns lines =? 0 then defaultsWritten im (checked im (length s) .fields) s else s
+    if openRefusal im (length s) columns lines =? 0 then defaultsWritten (fieldsOf im) s else s

@@ -1,11 +1,7 @@
 // The defaults of an image's fields, in one walk over its tables, lines and components.
 ghost use mathlib.Core.Path.{_≡_};
-ghost use Prim.Native.Nat.{_+_};
-ghost use lib.ListN.{length};
-ghost use Rattle.laws.specs.Choice.{if_then_else_};
-ghost use Rattle.field.specs.Sheet.{defaultWritten};
-ghost use Rattle.cmf.specs.Places.{componentsFrom};
-ghost use Rattle.handset.specs.Fill.{componentDefaults, tableDefaults, imageDefaults};
+ghost use Rattle.cmf.specs.Places.{lineFromHere, heldBy, tableReach, fieldsAmong, fieldsOf};
+ghost use Rattle.handset.specs.Open.{defaultsWritten};
 use cmf::component::Component;
 use cmf::component::read_component;
 use cmf::head::read_head;
@@ -14,7 +10,7 @@ use cmf::title::read_title;
 
 // Of a component, if it is a field.
 fn write_component(c: Component, sheet: &mut [u8])
-    ensures { λ _. ⌜ now (sheet .exit) ≡ if c .holds then defaultWritten (c .field) (now (sheet .entry)) else now (sheet .entry) ⌝ }
+    ensures { λ _. ⌜ now (sheet .exit) ≡ defaultsWritten (heldBy c) (now (sheet .entry)) ⌝ }
 {
     if c.holds {
         let field = c.field;
@@ -24,7 +20,9 @@ fn write_component(c: Component, sheet: &mut [u8])
 
 // Of the components of a line, the first of them at p.
 fn write_components(image: &[u8], p: usize, sheet: &mut [u8])
-    ensures { λ _. ⌜ now (sheet .exit) ≡ componentDefaults (now (image .entry)) (componentsFrom (now (image .entry)) (length (now (image .entry)) + 1) p) (now (sheet .entry)) ⌝ }
+    ensures { λ _. ⌜ now (sheet .exit)
+        ≡ defaultsWritten
+        (fieldsAmong (now (image .entry)) (lineFromHere (now (image .entry)) p)) (now (sheet .entry)) ⌝ }
 {
     let mut c = p;
     let mut left = image.len() + 1;
@@ -41,7 +39,9 @@ fn write_components(image: &[u8], p: usize, sheet: &mut [u8])
 
 // Of the table at a place; `left` levels are left, its own among them.
 fn write_table(image: &[u8], left: usize, at: usize, sheet: &mut [u8])
-    ensures { λ _. ⌜ now (sheet .exit) ≡ tableDefaults (now (image .entry)) left at (now (sheet .entry)) ⌝ }
+    ensures { λ _. ⌜ now (sheet .exit)
+        ≡ defaultsWritten
+        (fieldsAmong (now (image .entry)) (tableReach (now (image .entry)) left at)) (now (sheet .entry)) ⌝ }
 {
     if left == 0 {
         return;
@@ -66,7 +66,7 @@ fn write_table(image: &[u8], left: usize, at: usize, sheet: &mut [u8])
 
 // Of all fields of an image.
 pub(crate) fn write_defaults(image: &[u8], sheet: &mut [u8])
-    ensures { λ _. ⌜ now (sheet .exit) ≡ imageDefaults (now (image .entry)) (now (sheet .entry)) ⌝ }
+    ensures { λ _. ⌜ now (sheet .exit) ≡ defaultsWritten (fieldsOf (now (image .entry))) (now (sheet .entry)) ⌝ }
 {
     write_table(image, Image::MAX_DEPTH, Image::PROLOG, &mut *sheet);
 }

@@ -5,8 +5,8 @@ use mathlib.Core.Path.{_≡_, refl, sym, ap, _∙_}
 use mathlib.Core.Logic.{⊎-elim}
 use lib.ListN.{length}
 use Rattle.laws.proofs.Cases.{if-true, if-false}
-use Rattle.handset.specs.Fill.{tableDefaults}
-use Rattle.handset.proofs.Filling.{rest, lines-last, lines-next, lines-done, table-none, table-lines}
+use Rattle.cmf.specs.Places.{tableReach}
+use Rattle.handset.proofs.Filling.{writtenAt, rest, lines-last, lines-next, lines-done, table-none, table-lines}
 use borrow.Author.Needs.{needs}
 use borrow.Fn.Kinds.{In}
 use borrow.Fn.PlainCycle.{Measures, is, falls, and}
@@ -31,7 +31,7 @@ write-table-below t =
     and 2 write-table-kinds.ps (falls 2 write-table-kinds.ps _<_ μ-write-table t) write-table.Pre
 
 abbrev write-table-Inv-loop : write-table-lts.InvT-loop
-write-table-Inv-loop image left at sheet₀ below p₀ n₀ sheet p n = (rest image below n p sheet ≡ tableDefaults image left at sheet₀) × (length sheet ≡ length sheet₀)
+write-table-Inv-loop image left at sheet₀ below p₀ n₀ sheet p n = (rest image below n p sheet ≡ writtenAt image (tableReach image left at) sheet₀) × (length sheet ≡ length sheet₀)
 
 abbrev write-table-μ-loop : write-table-lts.MeasureT-loop
 write-table-μ-loop image left at sheet₀ below p₀ n₀ sheet p n = 100 - n

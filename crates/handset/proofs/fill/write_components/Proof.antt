@@ -4,14 +4,13 @@ use Prim.Native.Nat.{_+_}
 use mathlib.Core.Path.{_≡_, refl, sym, _∙_}
 use lib.ListN.{length}
 use Rattle.cmf.specs.Places.{componentsFrom}
-use Rattle.handset.specs.Fill.{componentDefaults}
-use Rattle.handset.proofs.Filling.{components-last, components-next, components-done}
+use Rattle.handset.proofs.Filling.{writtenAt, components-last, components-next, components-done}
 use borrow.Author.Needs.{needs}
 use Rattle.handset.proofs.fill.write_components.Statement.{statement}
 use Rattle.handset.proofs.fill.write_components.Tie as tie
 
 abbrev Inv-loop : tie.InvT-loop
-Inv-loop image p sheet₀ c₀ left₀ sheet c left = (componentDefaults image (componentsFrom image left c) sheet ≡ componentDefaults image (componentsFrom image (length image + 1) p) sheet₀) × (length sheet ≡ length sheet₀)
+Inv-loop image p sheet₀ c₀ left₀ sheet c left = (writtenAt image (componentsFrom image left c) sheet ≡ writtenAt image (componentsFrom image (length image + 1) p) sheet₀) × (length sheet ≡ length sheet₀)
 
 abbrev μ-loop : tie.MeasureT-loop
 μ-loop image p sheet₀ c₀ left₀ sheet c left = left
