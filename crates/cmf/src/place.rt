@@ -9,6 +9,7 @@ ghost use Rattle.cmf.specs.Readers.{tagBit, optionsEnd, textsFrom, headA
 ghost use Rattle.cmf.specs.Places.{lineAt, lineCount, lineFound, lineFromHere, firstEditable, nextEditable};
 use crate::component::read_component;
 use crate::head::Head;
+use crate::head::Options;
 use crate::head::any_head;
 use crate::head::read_head;
 use crate::image::Image;
@@ -54,9 +55,7 @@ fn has_password(image: &[u8], p: usize, tag: u8) -> bool
     if 31 < tag {
         return false;
     }
-    let t = tag as usize;
-    let options = p + 1 + 2 * (1 - t / 2 % 2) + 2 * (1 - t % 2) + 2 * (t / 4 % 2) + 2 * (t / 8 % 2);
-    let run = read_texts(image, 1, options);
+    let run = read_texts(image, 1, p + Options::of_tag(tag).end);
     run.fits
 }
 
