@@ -16,11 +16,13 @@ use Rattle.keys.specs.declared.press.Outcome.{Outcome}
 use Rattle.keys.specs.declared.press.Outcome.the-variants as outcome
 use Rattle.cmf.specs.Readers.{componentAt}
 use Rattle.cmf.specs.declared.component.Component.{Component}
+use Rattle.cmf.specs.declared.place.Found.{Found}
+use Rattle.cmf.specs.declared.place.Found.the-variants.{At, Nothing}
 use Rattle.acceptance.specs.Check.{refusalOf}
 use Rattle.acceptance.proofs.Acceptance.{accepted-exactly-when-well-formed}
 use Rattle.session.specs.Steps.{isRefused, taken, flash}
 use Rattle.session.specs.Seconds.{browseSecond, entrySecond}
-use Rattle.session.specs.Browsing.{upStep, downStep, leftStep, descended, rightStep, enterStep, browseStep}
+use Rattle.session.specs.Browsing.{upStep, downStep, leftStep, descended, rightStep, enterAt, enterStep, browseStep}
 use Rattle.session.specs.Passwords.{lastDigit, digitStep, entryStep}
 use Rattle.session.specs.Visits.{followed, visitStep}
 use Rattle.session.specs.Event.{stepIn, stepOf}
@@ -53,9 +55,14 @@ module _ {n : ℕ} where
   either : (t : Bool) {x y : Stepped} → Plain n x → Plain n y → Plain n (if t then x else y)
   either t p q = if-ind (Plain n) t (λ _. p) (λ _. q)
 
+  plain-enter : (im sheet : List ℕ) (s : Session) (f : Found) → Plain n (enterAt im sheet s f)
+  unfolding enterAt
+  plain-enter im sheet s (At p) = plain-taken _
+  plain-enter im sheet s Nothing = plain-flash s
+
   plain-browse : (im sheet : List ℕ) (s : Session) (e : ℕ) → Plain n (browseStep im sheet s e)
   unfolding browseStep upStep downStep leftStep rightStep descended enterStep browseSecond
-  plain-browse im sheet s e = search (either, plain-taken, plain-flash) depth 12
+  plain-browse im sheet s e = search (either, plain-taken, plain-flash, plain-enter) depth 12
 
   plain-entry : (im : List ℕ) (s : Session) (k e : ℕ) → Plain n (entryStep im s k e)
   unfolding entryStep digitStep lastDigit descended entrySecond

@@ -11,17 +11,17 @@ use borrow.Author.Tests.{eqb-true, eqb-false}
 use Rattle.laws.specs.Choice.{if_then_else_, _=?_, _<?_}
 use Rattle.laws.specs.Bytes.{byteAt, room}
 use Rattle.laws.proofs.Cases.{if-ind, if-false, by-test}
+use Rattle.field.specs.declared.kind.ImagePlace.{ImagePlace}
 use Rattle.cmf.specs.Readers.{tagBit, textsFrom, fixedBytes, textCount, given, componentRefused, componentRead, laidOut, componentBy, componentAt}
-use Rattle.cmf.specs.Places.{componentsFrom}
+use Rattle.cmf.specs.Places.{componentsFrom, lineFromHere, firstEditable, nextEditable}
 use Rattle.cmf.specs.declared.component.Component.{Component}
 use Rattle.cmf.specs.declared.text.Run.{Run}
+use Rattle.cmf.specs.declared.place.Found.{Found}
+use Rattle.cmf.specs.declared.place.Found.the-variants.{At, Nothing}
 use Rattle.cmf.proofs.Onward.{component-onward}
 use Rattle.acceptance.proofs.Parts.{places-last, places-more}
 use Rattle.acceptance.proofs.Turns.{turns-more}
 use Rattle.session.specs.Fits.{among}
-use Rattle.session.specs.Browsing.{firstEditable, lineFromHere}
-use Rattle.session.specs.Visits.{nextEditable}
-use Rattle.session.specs.declared.browse.Found.{Found}
 
 -- ---- one component
 
@@ -81,22 +81,29 @@ in-among p (q ∷ qs) m =
     go d (inl i) later = absurd (d (sym i))
     go d (inr k) later = later k
 
--- the first editable one of a list
-pub record EditableIn (im cs : List ℕ) (f : Found) : Type 0 where
-  pub there : f .found ≡ true → List·Memᴰ (f .place) cs
-  pub editable : f .found ≡ true → componentAt im (f .place) .editable ≡ true
+-- what is found is an editable one of a list
+pub data EditableIn (im cs : List ℕ) : Found → Type 0 where
+  here : {p : ImagePlace} → List·Memᴰ (p .0) cs → componentAt im (p .0) .editable ≡ true → EditableIn im cs (At p)
+  none : EditableIn im cs Nothing
+
+-- by what is found
+pub by-found : {im cs : List ℕ} {f : Found} (P : Found → Type 0) → EditableIn im cs f
+    → ((p : ImagePlace) → List·Memᴰ (p .0) cs → componentAt im (p .0) .editable ≡ true → P (At p)) → P Nothing → P f
+by-found P (EditableIn.here {p = p} m e) g n = g p m e
+by-found P EditableIn.none g n = n
 
 module _ (im : List ℕ) where
-  editable-later : (p : ℕ) (ps : List ℕ) (f : Found) → EditableIn im ps f → EditableIn im (p ∷ ps) f
-  editable-later p ps f h = record { there = λ e. List·Memᴰ·tail (h .there e); editable = h .editable }
+  -- it is in a longer list too
+  editable-within : (ps qs : List ℕ) (f : Found) → ((q : ℕ) → List·Memᴰ q ps → List·Memᴰ q qs) → EditableIn im ps f → EditableIn im qs f
+  editable-within ps qs f i h = by-found (EditableIn im qs) h (λ p m e. EditableIn.here (i (p .0) m) e) EditableIn.none
 
   pub first-editable-in : (cs : List ℕ) → EditableIn im cs (firstEditable im cs)
   unfolding firstEditable
-  first-editable-in [] = record { there = λ e. absurd (false≢true e); editable = λ e. absurd (false≢true e) }
+  first-editable-in [] = EditableIn.none
   first-editable-in (p ∷ ps) =
       if-ind (EditableIn im (p ∷ ps)) (componentAt im p .editable)
-      (λ e. record { there = λ _. List·Memᴰ·head refl; editable = λ _. e })
-      (λ _. editable-later p ps _ (first-editable-in ps))
+      (λ e. EditableIn.here (List·Memᴰ·head refl) e)
+      (λ _. editable-within ps (p ∷ ps) _ (λ q m. List·Memᴰ·tail m) (first-editable-in ps))
 
   -- what comes behind a component that is not the last of its line is on the line; k bounds the turns, and is enough
   pub behind-in : (k c p q : ℕ) → length im < k + c → k ≤ length im + 1 → List·Memᴰ p (componentsFrom im k c) → componentAt im p .last ≡ false
@@ -123,14 +130,10 @@ module _ (im : List ℕ) where
       step e o (inr r) rest = rest r
 
   -- so the editable component behind one of a line is on the line too
-  pub next-editable-in : (c p : ℕ) → List·Memᴰ p (componentsFrom im (length im + 1) c) → EditableIn im (componentsFrom im (length im + 1) c) (nextEditable im p)
+  pub next-editable-in : (c p : ℕ) → List·Memᴰ p (lineFromHere im c) → EditableIn im (lineFromHere im c) (nextEditable im p)
   unfolding nextEditable
   next-editable-in c p m =
-      if-ind (EditableIn im (componentsFrom im (length im + 1) c)) (componentAt im p .last)
-      (λ _. record { there = λ z. absurd (false≢true z); editable = λ z. absurd (false≢true z) })
-      (λ l.
-      let n = first-editable-in (lineFromHere im (componentAt im p .next)) in
-      record {
-        there = λ z. behind-in (length im + 1) c p _ (omega arith) (omega arith) m l (n .there z);
-        editable = n .editable;
-      })
+      if-ind (EditableIn im (lineFromHere im c)) (componentAt im p .last)
+      (λ _. EditableIn.none)
+      (λ l. editable-within (lineFromHere im (componentAt im p .next)) (lineFromHere im c) _
+      (λ q n. behind-in (length im + 1) c p q (omega arith) (omega arith) m l n) (first-editable-in (lineFromHere im (componentAt im p .next))))

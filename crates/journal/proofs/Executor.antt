@@ -27,8 +27,9 @@ use Rattle.keys.proofs.Outcomes.{passedIn, partsIn, Facts, Says, up-says, down-
 use Rattle.field.proofs.Apart.{LieApart, finished-beside, finished-read}
 use Rattle.cmf.specs.Grammar.{WellFormed}
 use Rattle.cmf.specs.Readers.{componentAt}
-use Rattle.cmf.specs.Places.{componentsOf}
+use Rattle.cmf.specs.Places.{componentsOf, nextEditable}
 use Rattle.cmf.specs.declared.head.Head.{Head}
+use Rattle.cmf.specs.declared.place.Found.{Found}
 use Rattle.acceptance.proofs.Acceptance.{accepted-exactly-when-well-formed, same-fields}
 use Rattle.acceptance.proofs.Fields.{others-apart, field-inside}
 use Rattle.acceptance.proofs.Reach.{part-of}
@@ -36,9 +37,9 @@ use Rattle.session.specs.Events.{up, down, left, right, enter, second, lastDigi
 use Rattle.session.specs.Fits.{cursorLine, cursorHead, workFits, visitFits, modeFits, sessionFits}
 use Rattle.session.specs.Steps.{taken, flash, withIdle, browsing, isFlash, isRefused}
 use Rattle.session.specs.Seconds.{browseSecond, entrySecond}
-use Rattle.session.specs.Browsing.{upStep, downStep, leftStep, descended, rightStep, visitAt, enterStep, browseStep}
+use Rattle.session.specs.Browsing.{upStep, downStep, leftStep, descended, rightStep, visitAt, enterAt, enterStep, browseStep}
 use Rattle.session.specs.Passwords.{lastDigit, digitStep, entryStep}
-use Rattle.session.specs.Visits.{pressed, nextEditable, movedOn, followed, followedSheet, visitStep, visitSheet}
+use Rattle.session.specs.Visits.{pressed, movedTo, movedOn, followed, followedSheet, visitStep, visitSheet}
 use Rattle.session.specs.Event.{stepIn, sheetIn}
 use Rattle.session.specs.declared.session.Mode.{Mode}
 use Rattle.session.specs.declared.session.Mode.the-variants as mode
@@ -51,7 +52,7 @@ use Rattle.handset.proofs.Stepping.{refused-step, refused-sheet, stepped, stepp
 use Rattle.journal.specs.Journal.{answered, on, ignored, counts}
 use Rattle.journal.specs.Rules.{fieldAt, openerOf, outOf, pressedOut, rulesOf, IsField}
 use Rattle.journal.specs.Sitting.{Sitting, sitting, next, answerTo}
-use Rattle.journal.proofs.Components.{own-place, editable-holds, among-in, EditableIn, first-editable-in, next-editable-in}
+use Rattle.journal.proofs.Components.{own-place, editable-holds, among-in, EditableIn, by-found, first-editable-in, next-editable-in}
 use Rattle.journal.proofs.Reached.{cursor-line-in}
 use Rattle.journal.proofs.Steps.{View, away, at, System, Fresh, none, Step, skips, quiet, opens, goes, passes, ends, Lawful}
 use Rattle.journal.proofs.Steps as steps
@@ -143,10 +144,9 @@ module _ (im : List ℕ) where
   view-trigger w p f = rw f
 
   -- a visit that is opened has just begun
-  fresh-at : (s : Session) (sheet : List ℕ) (p : ℕ) → IsField im p → Fresh (rulesOf im) executor (sitting (visitAt im sheet s p) sheet)
+  fresh-at : (s : Session) (sheet : List ℕ) (p : ImagePlace) → IsField im (p .0) → Fresh (rulesOf im) executor (sitting (visitAt im sheet s p) sheet)
   unfolding begun
-  fresh-at s sheet p f =
-      by-test (fires p) (λ h. none (view-trigger _ (record { 0 = p }) h)) (λ h. steps.begun p f (view-visit _ (record { 0 = p }) h))
+  fresh-at s sheet p f = by-test (fires (p .0)) (λ h. none (view-trigger _ p h)) (λ h. steps.begun (p .0) f (view-visit _ p h))
 
   -- ---- refusals and seconds
 
@@ -238,12 +238,11 @@ module _ (im : List ℕ) where
 
     -- ENTER while browsing
     enter-right : e =? enter ≡ true → e =? second ≡ false → s .mode ≡ mode.Browsing → Right t e (enterStep im (t .sheet) (withIdle s 0)) (t .sheet)
-    unfolding enterStep componentsOf cursorHead
+    unfolding enterStep enterAt
     enter-right h key b =
-        let f = first-editable-in im (componentsOf im (cursorLine im (s .here))) in
-        by-if _
-        (λ o. record { right = opens (heard t e key answer.Taken refl) refl (counts-enter t e key answer.Taken refl h) (fresh-at (withIdle s 0) (t .sheet) _ (on-line _ (f .there o) (f .editable o))) (λ q k. refl) })
-        (λ _. quiet-flash t e key _ (still t e key s b _))
+        by-found (λ (f : Found). Right t e (enterAt im (t .sheet) (withIdle s 0) f) (t .sheet)) (first-editable-in im (componentsOf im (cursorLine im (s .here))))
+        (λ p m o. record { right = opens (heard t e key answer.Taken refl) refl (counts-enter t e key answer.Taken refl h) (fresh-at (withIdle s 0) (t .sheet) p (on-line (p .0) m o)) (λ q k. refl) })
+        (quiet-flash t e key _ (still t e key s b _))
 
     browse-right : s .mode ≡ mode.Browsing → Right t e (browseStep im (t .sheet) s e) (t .sheet)
     unfolding browseStep browseSecond
@@ -319,10 +318,10 @@ module _ (im : List ℕ) where
 
       -- the next visit has just begun
       moved-fresh : (sheet : List ℕ) → Fresh (rulesOf im) executor (sitting (movedOn im sheet (withIdle s 0) (p .0)) sheet)
-      unfolding movedOn
+      unfolding movedOn movedTo
       moved-fresh sheet =
-          if-ind (λ (x : Session). Fresh (rulesOf im) executor (sitting x sheet)) (nextEditable im (p .0) .found)
-          (λ o. fresh-at (withIdle s 0) sheet _ (on-line _ (next-in .there o) (next-in .editable o))) (λ _. none refl)
+          by-found (λ (x : Found). Fresh (rulesOf im) executor (sitting (movedTo im sheet (withIdle s 0) x) sheet)) next-in
+          (λ q i o. fresh-at (withIdle s 0) sheet q (on-line (q .0) i o)) (none refl)
 
       -- another field lies apart
       others : (q : ℕ) → IsField im q → q ≢ p .0 → LieApart f (fieldAt im q)

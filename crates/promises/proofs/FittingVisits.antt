@@ -6,7 +6,7 @@ use mathlib.Core.Bool.{Bool, true, false}
 use mathlib.Core.List.{List, List·Memᴰ}
 use lib.ListN.{length}
 use Rattle.laws.specs.Choice.{_=?_}
-use Rattle.laws.proofs.Cases.{if-ind, and-i, and-l, and-r}
+use Rattle.laws.proofs.Cases.{and-i, and-l, and-r}
 use Rattle.field.specs.Table.{profileOf}
 use Rattle.field.specs.Sheet.{finishedIn}
 use Rattle.field.specs.declared.kind.Kind.{Kind}
@@ -19,16 +19,17 @@ use Rattle.field.proofs.Legal.{Legal}
 use Rattle.keys.proofs.Outcomes.{Facts}
 use Rattle.cmf.specs.Grammar.{WellFormed}
 use Rattle.cmf.specs.Readers.{componentAt}
-use Rattle.cmf.specs.Places.{componentsOf}
+use Rattle.cmf.specs.Places.{componentsOf, nextEditable}
+use Rattle.cmf.specs.declared.place.Found.{Found}
 use Rattle.acceptance.proofs.Reach.{part-of}
 use Rattle.session.specs.Events.{enter}
-use Rattle.session.specs.Fits.{shapeFits, cursorLine, cursorHead, visitFits, modeFits}
+use Rattle.session.specs.Fits.{shapeFits, cursorLine, visitFits, modeFits}
 use Rattle.session.specs.Steps.{withIdle, visiting}
-use Rattle.session.specs.Browsing.{visitAt, enterStep}
-use Rattle.session.specs.Visits.{nextEditable, movedOn, followed, visitStep}
+use Rattle.session.specs.Browsing.{visitAt, enterAt, enterStep}
+use Rattle.session.specs.Visits.{movedTo, movedOn, followed, visitStep}
 use Rattle.session.specs.declared.session.Mode.the-variants as mode
 use Rattle.session.specs.declared.session.Session.{Session}
-use Rattle.journal.proofs.Components.{editable-holds, among-in, in-among, EditableIn, first-editable-in, next-editable-in}
+use Rattle.journal.proofs.Components.{editable-holds, among-in, in-among, EditableIn, by-found, first-editable-in, next-editable-in}
 use Rattle.journal.proofs.Reached.{cursor-line-in}
 use Rattle.journal.proofs.Executor.{pressed-says, work-legal}
 use Rattle.promises.proofs.Fitting.{Good, fits-of, Keeps, by-keeps, idle-good, doing-good, browsing-good}
@@ -55,16 +56,15 @@ module _ (im : List ℕ) (c l : ℕ) (shape : shapeFits c l ≡ true) (n : ℕ) 
         (and-i (in-among (q .0) _ m) (and-i (editable-holds im (q .0) e) (and-i e (legal-fits _ v h))))
 
     -- a visit that begins
-    begun-good : (sheet : List ℕ) (q : ℕ) → List·Memᴰ q (lineOf s) → componentAt im q .editable ≡ true → Good im c l (visitAt im sheet s q)
-    begun-good sheet q m e =
-        visiting-good (record { 0 = q }) _ m e (begun-legal _ sheet (line-ready s g q m e)) (begun-cells (componentAt im q .field) sheet)
+    begun-good : (sheet : List ℕ) (q : ImagePlace) → List·Memᴰ (q .0) (lineOf s) → componentAt im (q .0) .editable ≡ true → Good im c l (visitAt im sheet s q)
+    begun-good sheet q m e = visiting-good q _ m e (begun-legal _ sheet (line-ready s g (q .0) m e)) (begun-cells (componentAt im (q .0) .field) sheet)
 
     -- ENTER while browsing
     pub enter-keeps : (sheet : List ℕ) → Keeps im c l (enterStep im sheet s)
-    unfolding enterStep componentsOf cursorHead
+    unfolding enterStep enterAt
     enter-keeps sheet =
-        let f = first-editable-in im (lineOf s) in
-        by-keeps im c l _ (λ o. record { good = begun-good sheet _ (f .there o) (f .editable o) }) (λ _. record { good = g })
+        by-found (λ (f : Found). Keeps im c l (enterAt im sheet s f)) (first-editable-in im (lineOf s))
+        (λ q m o. record { good = begun-good sheet q m o }) (record { good = g })
 
     module _ (p : ImagePlace) (m : List·Memᴰ (p .0) (lineOf s)) where
       -- the next editable component is on the line too
@@ -74,10 +74,10 @@ module _ (im : List ℕ) (c l : ℕ) (shape : shapeFits c l ≡ true) (n : ℕ) 
 
       -- a visit that is over leads to the next one of the line, or to browsing
       moved-good : (sheet : List ℕ) → Good im c l (movedOn im sheet s (p .0))
-      unfolding movedOn
+      unfolding movedOn movedTo
       moved-good sheet =
-          if-ind (Good im c l) (nextEditable im (p .0) .found) (λ o. begun-good sheet _ (next-in .there o) (next-in .editable o))
-          (λ _. browsing-good im c l s g (s .typed) (g .sized .typed))
+          by-found (λ (f : Found). Good im c l (movedTo im sheet s f)) next-in (λ q i o. begun-good sheet q i o)
+          (browsing-good im c l s g (s .typed) (g .sized .typed))
 
       -- by the outcome of a key, with the working copy v that it gave
       followed-keeps : (sheet : List ℕ) (f : Field) (k : Kind) (t : Bool) (u v : Work) (o : Outcome) → Facts t k u v o → componentAt im (p .0) .editable ≡ true

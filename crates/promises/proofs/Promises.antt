@@ -17,7 +17,7 @@ use Rattle.cmf.specs.Grammar.{WellFormed}
 use Rattle.acceptance.specs.Check.{entryOf, checked, refusalOf}
 use Rattle.acceptance.proofs.Acceptance.{accepted-exactly-when-well-formed, counted}
 use Rattle.acceptance.proofs.Faulty.{refused-exactly-when}
-use Rattle.acceptance.proofs.Fields.{every-in}
+use Rattle.acceptance.proofs.Fields.{every-in, all-standing}
 use Rattle.session.specs.Events.{second}
 use Rattle.session.specs.Steps.{told}
 use Rattle.session.specs.Fits.{shapeFits, sessionFits}
@@ -35,7 +35,7 @@ use Rattle.handset.specs.Draw.{drawRefusal, drawCursor, drawnPicture}
 use Rattle.handset.proofs.Ordering.{first-given, next-given, holding, failing, none-before, none-unless}
 use Rattle.handset.proofs.Drawing.{refused-cursor, refused-picture, drawn-cursor, drawn-picture}
 use Rattle.handset.proofs.Stepping.{refused-step, refused-sheet, stepped, stepped-sheet}
-use Rattle.handset.proofs.Defaults.{all, others-stay}
+use Rattle.handset.proofs.Defaults.{others-stay}
 use Rattle.handset.proofs.Finding.{text-none}
 use Rattle.handset.proofs.Items.{item-is}
 use Rattle.journal.specs.Journal.{allVisited}
@@ -133,7 +133,7 @@ demand-1 im = record {
 -- every field of the derivation is read at its place, so that `IsField` misses none
 pub field-stands : (im : List ℕ) (n : ℕ) (w : WellFormed im n) (g : Field) → List·Memᴰ g (w .fields) → (fieldAt im (g .image .0) ≡ g) × IsField im (g .image .0)
 field-stands im n w g m =
-    let e = every-in (all im n w) g m .reads in
+    let e = every-in (all-standing im n w) g m .reads in
     (e, record { sheet = n; formed = w; known = rw e m })
 
 -- what lies apart from every place of a field lies apart from every field

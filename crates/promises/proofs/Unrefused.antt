@@ -18,9 +18,10 @@ use Rattle.field.specs.declared.work.Work.{Work}
 use Rattle.keys.specs.declared.press.Outcome.{Outcome}
 use Rattle.keys.specs.declared.press.Outcome.the-variants as outcome
 use Rattle.cmf.specs.Grammar.{WellFormed}
-use Rattle.cmf.specs.Readers.{componentAt}
-use Rattle.acceptance.specs.Check.{refusalOf, checked}
-use Rattle.acceptance.specs.declared.index.Entry.{Entry}
+use Rattle.cmf.specs.Places.{fieldsOf}
+use Rattle.cmf.specs.declared.place.Found.{Found}
+use Rattle.cmf.specs.declared.place.Found.the-variants.{At, Nothing}
+use Rattle.acceptance.specs.Check.{refusalOf}
 use Rattle.acceptance.proofs.Acceptance.{accepted-exactly-when-well-formed}
 use Rattle.session.specs.Session.{opened}
 use Rattle.session.specs.Events.{second}
@@ -187,11 +188,10 @@ module _ (im : List ℕ) (c l : ℕ) (shape : shapeFits c l ≡ true) (n : ℕ) 
 -- ---- Open
 
 -- defaults leave the sheet's length
-defaults-long : (im : List ℕ) (es : List Entry) (s : List ℕ) → length (defaultsWritten im es s) ≡ length s
+defaults-long : (fs : List Field) (s : List ℕ) → length (defaultsWritten fs s) ≡ length s
 unfolding defaultsWritten defaultWritten
-defaults-long im [] s = refl
-defaults-long im (x ∷ es) s =
-    let f = componentAt im (x .place .0) .field in defaults-long im es (defaultWritten f s) ∙ length-put (f .sheet .0) (bytesOf (f .default)) s
+defaults-long [] s = refl
+defaults-long (f ∷ fs) s = defaults-long fs (defaultWritten f s) ∙ length-put (f .sheet .0) (bytesOf (f .default)) s
 
 -- Open's session
 opened-good : (im : List ℕ) (c l : ℕ) → shapeFits c l ≡ true → Good im c l (opened c l)
@@ -213,7 +213,7 @@ module _ (im sheet : List ℕ) (columns lines : ℕ) (accepted : openRefusal im 
   unfolding begunWith openAnswer openSheet
   begun-holds = record {
     good = rw (if-eq (openRefusal im (length sheet) columns lines) 0 _ _ accepted) (opened-good im columns lines shape);
-    long = rw (if-eq (openRefusal im (length sheet) columns lines) 0 _ _ accepted) (defaults-long im (checked im (length sheet) .fields) sheet);
+    long = rw (if-eq (openRefusal im (length sheet) columns lines) 0 _ _ accepted) (defaults-long (fieldsOf im) sheet);
   }
 
   -- after a successful Open nothing is refused, whatever the events are: the session fits, every event from 0 to 16 is answered, and so is every

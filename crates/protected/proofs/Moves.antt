@@ -17,14 +17,16 @@ use Rattle.field.specs.declared.work.Work.{Work}
 use Rattle.keys.specs.declared.press.Outcome.{Outcome}
 use Rattle.keys.specs.declared.press.Outcome.the-variants as outcome
 use Rattle.cmf.specs.Readers.{textBytes, headAt}
+use Rattle.cmf.specs.declared.place.Found.{Found}
+use Rattle.cmf.specs.declared.place.Found.the-variants.{At, Nothing}
 use Rattle.acceptance.proofs.Acceptance.{accepted-exactly-when-well-formed}
 use Rattle.session.specs.Events.{lastDigitKey, right, second}
 use Rattle.session.specs.Steps.{withIdle}
 use Rattle.session.specs.Fits.{cursorLine, cursorHead, modeFits, entryFits, sessionFits}
 use Rattle.session.specs.Seconds.{browseSecond, entrySecond}
-use Rattle.session.specs.Browsing.{upStep, downStep, leftStep, descended, rightStep, enterStep, browseStep}
+use Rattle.session.specs.Browsing.{upStep, downStep, leftStep, descended, rightStep, enterAt, enterStep, browseStep}
 use Rattle.session.specs.Passwords.{rightTo, entered, lastDigit, digitStep, entryStep}
-use Rattle.session.specs.Visits.{movedOn, followed, visitStep}
+use Rattle.session.specs.Visits.{movedTo, movedOn, followed, visitStep}
 use Rattle.session.specs.Event.{stepIn}
 use Rattle.session.specs.declared.session.Mode.{Mode}
 use Rattle.session.specs.declared.session.Mode.the-variants as mode
@@ -149,9 +151,14 @@ module _ (im : List ℕ) (s : Session) (e : ℕ) where
     left-moves = by-move _ (λ _. stays refl refl (omega arith) refl) (λ _. stays refl refl (omega arith) refl)
 
     -- ENTER opens a visit
+    entered-moves : (sheet : List ℕ) (f : Found) → Move im s e (enterAt im sheet (withIdle s 0) f)
+    unfolding enterAt
+    entered-moves sheet (At p) = still refl refl (omega arith) refl
+    entered-moves sheet Nothing = stays refl refl (omega arith) refl
+
     enter-moves : (sheet : List ℕ) → Move im s e (enterStep im sheet (withIdle s 0))
     unfolding enterStep
-    enter-moves sheet = by-move _ (λ _. still refl refl (omega arith) refl) (λ _. stays refl refl (omega arith) refl)
+    enter-moves sheet = entered-moves sheet _
 
     -- a second shows the top, or counts
     second-moves : Move im s e (browseSecond im s)
@@ -186,11 +193,14 @@ module _ (im : List ℕ) (s : Session) (e : ℕ) where
         (λ _. stays refl refl (omega arith) refl))))))
 
     -- a visit that is over leads to another, or to browsing
+    moved-to : (sheet : List ℕ) (f : Found) (a : Answer) → Move im s e (record { session = movedTo im sheet (withIdle s 0) f; answer = a })
+    unfolding movedTo
+    moved-to sheet (At p) a = still refl refl (omega arith) refl
+    moved-to sheet Nothing a = still refl refl (omega arith) refl
+
     moved-on : (sheet : List ℕ) (p : ℕ) (a : Answer) → Move im s e (record { session = movedOn im sheet (withIdle s 0) p; answer = a })
     unfolding movedOn
-    moved-on sheet p a =
-        if-ind (λ (z : Session). Move im s e (record { session = z; answer = a })) _
-        (λ _. still refl refl (omega arith) refl) (λ _. still refl refl (omega arith) refl)
+    moved-on sheet p a = moved-to sheet _ a
 
     -- by the outcome of a key
     followed-moves : (sheet : List ℕ) (p : ImagePlace) (f : Field) (w : Work) (o : Outcome) → Move im s e (followed im sheet (withIdle s 0) p f w o)
