@@ -20,7 +20,9 @@ use Rattle.acceptance.proofs.Acceptance.{accepted-exactly-when-well-formed}
 use Rattle.session.specs.Steps.{finishedFrom, isRefused, taken, flash}
 use Rattle.session.specs.Fits.{modeFits, visitFits, sessionFits}
 use Rattle.session.specs.Seconds.{browseSecond, entrySecond}
-use Rattle.session.specs.Browsing.{upStep, downStep, leftStep, descended, rightStep, enterStep, browseStep}
+use Rattle.cmf.specs.declared.place.Found.{Found}
+use Rattle.cmf.specs.declared.place.Found.the-variants.{At, Nothing}
+use Rattle.session.specs.Browsing.{upStep, downStep, leftStep, descended, rightStep, enterAt, enterStep, browseStep}
 use Rattle.session.specs.Passwords.{lastDigit, digitStep, entryStep}
 use Rattle.session.specs.Visits.{followed, visitStep}
 use Rattle.session.specs.Event.{stepIn, stepOf, sheetOf}
@@ -54,6 +56,12 @@ module _ {m : Mode} where
   flash-plain : (s : Session) → Plain m (flash s)
   flash-plain s = record { given = refl; near = λ _. tt }
 
+-- ENTER while browsing, whatever is found
+enter-plain : (im sheet : List ℕ) (s : Session) (f : Found) → Plain mode.Browsing (enterAt im sheet s f)
+unfolding enterAt
+enter-plain im sheet s (At p) = taken-plain _
+enter-plain im sheet s Nothing = flash-plain s
+
 -- a key in a visit, whatever its outcome
 followed-plain : (im sheet : List ℕ) (s : Session) (p : ImagePlace) (f : Field) (v : Work) (o : Outcome)
     → Plain (mode.Visit p) (followed im sheet s p f v o)
@@ -68,7 +76,7 @@ followed-plain im sheet s p f v outcome.Passed = taken-plain _
 -- the step of every mode
 pub mode-plain : (im sheet : List ℕ) (s : Session) (e : ℕ) (m : Mode) → Plain m (stepIn im sheet s e m)
 unfolding stepIn browseStep upStep downStep leftStep rightStep descended enterStep browseSecond entryStep entrySecond digitStep lastDigit visitStep
-mode-plain im sheet s e mode.Browsing = search (by-plain, taken-plain, flash-plain) depth 30
+mode-plain im sheet s e mode.Browsing = search (by-plain, taken-plain, flash-plain, enter-plain) depth 30
 mode-plain im sheet s e (mode.Visit p) = by-plain _ (λ _. taken-plain s) (λ _. followed-plain im sheet _ p _ _ _)
 mode-plain im sheet s e (mode.Password k) = search (by-plain, taken-plain, flash-plain) depth 30
 

@@ -23,9 +23,12 @@ use Rattle.session.specs.Events.{lastDigitKey, second}
 use Rattle.session.specs.Steps.{told, taken, flash, isFlash, withIdle}
 use Rattle.session.specs.Fits.{cursorLine, cursorHead, levelsFit, tablesFit, modeFits, entryFits, sessionFits}
 use Rattle.session.specs.Seconds.{browseSecond, entrySecond}
-use Rattle.session.specs.Browsing.{upStep, downStep, leftStep, descended, rightStep, enterStep, browseStep}
+use Rattle.cmf.specs.Places.{nextEditable}
+use Rattle.cmf.specs.declared.place.Found.{Found}
+use Rattle.cmf.specs.declared.place.Found.the-variants.{At, Nothing}
+use Rattle.session.specs.Browsing.{upStep, downStep, leftStep, descended, rightStep, enterAt, enterStep, browseStep}
 use Rattle.session.specs.Passwords.{rightTo, entered, lastDigit, digitStep, entryStep}
-use Rattle.session.specs.Visits.{movedOn, followed, followedSheet, visitStep, visitSheet}
+use Rattle.session.specs.Visits.{movedTo, movedOn, followed, followedSheet, visitStep, visitSheet}
 use Rattle.session.specs.Event.{stepIn, sheetIn, stepOf}
 use Rattle.session.specs.declared.session.Level.{Level}
 use Rattle.session.specs.declared.session.Mode.{Mode}
@@ -105,9 +108,15 @@ module _ (im : List ℕ) (s : Session) (e : ℕ) where
       by-kept _ (λ _. by-kept _ (λ _. heeds refl refl) (λ _. by-kept _ (λ _. heeds refl refl) (λ _. flashes)))
       (λ _. flashes)
 
+  -- ENTER, whatever is found
+  found-kept : (sheet : List ℕ) (f : Found) → Kept (enterAt im sheet (withIdle s 0) f)
+  unfolding enterAt
+  found-kept sheet (At p) = heeds refl refl
+  found-kept sheet Nothing = flashes
+
   enter-kept : (sheet : List ℕ) → Kept (enterStep im sheet (withIdle s 0))
   unfolding enterStep
-  enter-kept sheet = by-kept _ (λ _. heeds refl refl) (λ _. flashes)
+  enter-kept sheet = found-kept sheet _
 
   second-kept : e ≡ second → Kept (browseSecond im s)
   unfolding browseSecond
@@ -126,9 +135,14 @@ module _ (im : List ℕ) (s : Session) (e : ℕ) where
   -- ---- a visit
 
   -- the next visit, or browsing
+  moved-to : (sheet : List ℕ) (f : Found) → movedTo im sheet (withIdle s 0) f .idle ≡ 0
+  unfolding movedTo
+  moved-to sheet (At p) = refl
+  moved-to sheet Nothing = refl
+
   moved-on : (sheet : List ℕ) (p : ℕ) → movedOn im sheet (withIdle s 0) p .idle ≡ 0
   unfolding movedOn
-  moved-on sheet p = if-ind (λ (z : Session). z .idle ≡ 0) _ (λ _. refl) (λ _. refl)
+  moved-on sheet p = moved-to sheet (nextEditable im p)
 
   followed-kept : (sheet : List ℕ) (p : ImagePlace) (f : Field) (w : Work) (o : Outcome)
       → Kept (followed im sheet (withIdle s 0) p f w o)
