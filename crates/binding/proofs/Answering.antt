@@ -1,7 +1,7 @@
 -- The answers that are given fit their numbers: a step is never a refusal, the place it names is that of the visited component,
 -- which is in the image; and the edit cursor is on the display.
 use Prim.Native.Nat.{ℕ, _+_, _-_, _≤_, _<_}
-use mathlib.Core.Path.{_≡_, refl}
+use mathlib.Core.Path.{_≡_, refl, sym}
 use mathlib.Core.Bool.{Bool, true, false, false≢true}
 use mathlib.Core.List.{List, [], _∷_}
 use native.Mathlib.Omega.{arith}
@@ -20,7 +20,7 @@ use Rattle.cmf.specs.declared.place.Found.{Found}
 use Rattle.cmf.specs.declared.place.Found.the-variants.{At, Nothing}
 use Rattle.acceptance.specs.Check.{refusalOf}
 use Rattle.acceptance.proofs.Acceptance.{accepted-exactly-when-well-formed}
-use Rattle.session.specs.Steps.{isRefused, taken, flash}
+use Rattle.session.specs.Steps.{told, isRefused, taken, flash}
 use Rattle.session.specs.Seconds.{browseSecond, entrySecond}
 use Rattle.session.specs.Browsing.{upStep, downStep, leftStep, descended, rightStep, enterAt, enterStep, browseStep}
 use Rattle.session.specs.Passwords.{lastDigit, digitStep, entryStep}
@@ -31,6 +31,8 @@ use Rattle.session.specs.declared.session.Level.{Level}
 use Rattle.session.specs.declared.session.Mode.{Mode}
 use Rattle.session.specs.declared.session.Mode.the-variants as mode
 use Rattle.session.specs.declared.session.Session.{Session}
+use Rattle.session.specs.declared.step.Answer.{Answer}
+use Rattle.session.specs.declared.step.Answer.the-variants as answer
 use Rattle.session.specs.declared.step.Stepped.{Stepped}
 use Rattle.picture.specs.Cursor.{cursorIn, dataCell}
 use Rattle.handset.proofs.Ordering.{Granted}
@@ -42,6 +44,15 @@ use Rattle.binding.specs.Answers.{placeOf, cursorNumber}
 pub record Plain (n : ℕ) (r : Stepped) : Type 0 where
   pub given : isRefused (r .answer) ≡ false
   pub near : placeOf (r .answer) ≤ n
+
+-- its number is below that of every refusal
+pub told-plain : (a : Answer) → isRefused a ≡ false → told a ≤ 131072 + placeOf a
+unfolding told placeOf
+told-plain answer.Taken h = omega arith
+told-plain answer.Flash h = omega arith
+told-plain (answer.Finished p) h = omega arith
+told-plain (answer.Fired p) h = omega arith
+told-plain (answer.Refused n) h = absurd (false≢true (sym h))
 
 module _ {n : ℕ} where
   plain-taken : (s : Session) → Plain n (taken s)

@@ -6,16 +6,17 @@ use mathlib.Core.List.{List}
 use native.Mathlib.Omega.{arith}
 use native.Mathlib.Decide.{ℕ-discrete}
 use lib.ListN.{length}
-use borrow.Author.Tests.{eq-eqb, ne-eqb, eqb-true}
+use borrow.Author.Tests.{eq-eqb, ne-eqb, eqb-true, eqb-false}
 use Rattle.laws.specs.Choice.{_=?_}
-use Rattle.laws.proofs.Cases.{if-ind, if-eq, if-ne}
+use Rattle.laws.proofs.Cases.{if-ind, by-test, if-eq, if-ne}
 use Rattle.acceptance.specs.Check.{refusalOf}
 use Rattle.session.specs.Session.{closed}
 use Rattle.session.specs.Fits.{shapeFits, sessionFits}
-use Rattle.session.specs.Event.{stepOf, sheetOf}
 use Rattle.session.specs.Steps.{told}
 use Rattle.session.specs.declared.session.Session.{Session}
 use Rattle.session.specs.declared.step.Stepped.{Stepped}
+use Rattle.session_bytes.specs.Layout.{sessionBytes, sessionWritten, sessionIn, sessionFrom}
+use Rattle.session_bytes.proofs.Layouts.{written}
 use Rattle.session.proofs.Closed.{closed-never-fits}
 use Rattle.handset.specs.Refusals.{_before_, _unless_, sessionRefusal}
 use Rattle.handset.specs.Open.{openRefusal, openAnswer, openSheet}
@@ -26,11 +27,10 @@ use Rattle.handset.specs.declared.option.TextPlace.{TextPlace}
 use Rattle.handset.specs.declared.open.Opened.{Opened}
 use Rattle.handset.proofs.Items.{shown-inside, shown-refusal}
 use Rattle.handset.proofs.Ordering.{first-given, next-given, holding, failing, none-before, Granted, session-granted}
-use Rattle.handset.proofs.Stepping.{event-granted, refused-step, refused-sheet, stepped, stepped-sheet}
-use Rattle.binding.specs.Layout.{sessionBytes, sessionIn, sessionFrom}
+use Rattle.handset.proofs.Stepping.{event-granted, refused-step, stepped}
 use Rattle.binding.specs.Answers.{refusedBy, placeOf, cursorNumber}
 use Rattle.binding.specs.Calls.{openNumber, openedSheet, openedBytes, openedSession, eventNumber, eventBytes, drawNumber, textNumber}
-use Rattle.binding.proofs.Answering.{step-plain, short, cursor-plain}
+use Rattle.binding.proofs.Answering.{Plain, told-plain, step-plain, short, cursor-plain}
 
 -- ---- Open
 
@@ -70,23 +70,23 @@ module _ (im : List ℕ) (sheet columns lines : ℕ) where
   refusal-of o e = ap (λ (x : Opened). x .refusal) e
 
   pub bytes-kept : (bs : List ℕ) → (length bs ≡ 230 → ⊥) → bs ≡ openedBytes im sheet columns lines bs
-  unfolding openedBytes
+  unfolding openedBytes sessionWritten
   bytes-kept bs h = sym (if-ne _ 230 _ _ h)
 
-  pub bytes-opened : (bs t : List ℕ) (o : Opened) → length bs ≡ 230 → o ≡ openAnswer im sheet columns lines → t ≡ sessionBytes (o .session)
+  pub bytes-opened : (bs t : List ℕ) (o : Opened) → o ≡ openAnswer im sheet columns lines → t ≡ sessionWritten (o .session) bs
       → t ≡ openedBytes im sheet columns lines bs
   unfolding openedBytes
-  bytes-opened bs t o h e f = f ∙ ap (λ (x : Opened). sessionBytes (x .session)) e ∙ sym (if-eq _ 230 _ _ h)
+  bytes-opened bs t o e f = f ∙ ap (λ (x : Opened). sessionWritten (x .session) bs) e
 
   pub session-closed : (bs : List ℕ) → (length bs ≡ 230 → ⊥) → sessionFrom bs ≡ openedSession im sheet columns lines (length bs)
   unfolding sessionFrom openedSession
   session-closed bs h = if-ne _ 230 _ _ h ∙ sym (if-ne _ 230 _ _ h)
 
-  pub session-opened : (bs t : List ℕ) (o : Opened) → length bs ≡ 230 → o ≡ openAnswer im sheet columns lines → t ≡ sessionBytes (o .session)
+  pub session-opened : (bs t : List ℕ) (o : Opened) → length bs ≡ 230 → o ≡ openAnswer im sheet columns lines → t ≡ sessionWritten (o .session) bs
       → sessionFrom (sessionBytes (o .session)) ≡ o .session → sessionFrom t ≡ openedSession im sheet columns lines (length bs)
   unfolding openedSession
   session-opened bs t o h e f b =
-      ap (λ (l : List ℕ). sessionFrom l) f ∙ b ∙ ap (λ (x : Opened). x .session) e ∙ sym (if-eq _ 230 _ _ h)
+      ap (λ (l : List ℕ). sessionFrom l) (written (o .session) bs t h f) ∙ b ∙ ap (λ (x : Opened). x .session) e ∙ sym (if-eq _ 230 _ _ h)
 
 module _ (im sheet : List ℕ) (columns lines n : ℕ) where
   pub sheet-kept : (n ≡ 230 → ⊥) → sheet ≡ openedSheet im sheet columns lines n
@@ -109,61 +109,72 @@ sized im bs sheet g = go (ℕ-discrete (length bs) 230)
     go (no h) =
         absurd (false≢true (sym (closed-never-fits im) ∙ ap (λ (s : Session). sessionFits im s) (sym (if-ne (length bs) 230 (sessionIn bs) closed h)) ∙ g .fits))
 
-module _ (im sheet bs : List ℕ) (e k : ℕ) {s : Session} (p : s ≡ sessionFrom bs) (g : k ≡ eventRefusal im (length sheet) s e) where
-  q : k ≡ eventRefusal im (length sheet) (sessionFrom bs) e
-  q = rw p at g
+module _ (im sheet bs : List ℕ) (e : ℕ) {s : Session} (p : s ≡ sessionFrom bs) {r : Stepped} (f : r ≡ eventStep im sheet s e) where
+  next : r ≡ eventStep im sheet (sessionFrom bs) e
+  next = rw p at f
 
-  -- a refused Event leaves sheet and bytes
-  module _ (h : k ≡ 0 → ⊥) where
-    kept : refusedWith (sessionFrom bs) k ≡ eventStep im sheet (sessionFrom bs) e
-    kept = refused-step im sheet (sessionFrom bs) e k q h
+  refusal : ℕ
+  refusal = eventRefusal im (length sheet) (sessionFrom bs) e
 
-    pub number-refused : (n : ℕ) → n ≡ refusedBy k → n ≡ eventNumber im sheet bs e
-    unfolding eventNumber eventTold refusedBy told
-    number-refused n f = f ∙ if-ne k 0 _ _ h ∙ ap (λ (x : Stepped). told (x .answer)) kept
+  refused : (refusal ≡ 0 → ⊥) → refusedWith (sessionFrom bs) refusal ≡ r
+  unfolding refusal
+  refused h = refused-step im sheet (sessionFrom bs) e _ refl h ∙ sym next
 
-    pub sheet-refused : sheet ≡ eventSheet im sheet (sessionFrom bs) e
-    sheet-refused = refused-sheet im sheet (sessionFrom bs) e k q h
+  granted : refusal ≡ 0 → Granted im (length sheet) (sessionFrom bs)
+  unfolding refusal
+  granted z = event-granted im (length sheet) (sessionFrom bs) e z .granted
+
+  -- a step's answer is near, and so is a refusal's, which has no place
+  plain : refusal ≡ 0 → Plain 32768 r
+  unfolding refusal
+  plain z =
+      let t = stepped im sheet (sessionFrom bs) e _ refl z ∙ sym next in
+      rw (← t) (step-plain im sheet (sessionFrom bs) e (granted z))
+
+  pub place-near : placeOf (r .answer) < 65536
+  unfolding placeOf
+  place-near =
+      by-test (refusal =? 0)
+      (λ t. omega (arith, plain (eqb-true refusal 0 t) .near))
+      (λ t. rw (← refused (eqb-false refusal 0 t)) (omega arith))
+
+  pub number-told : (n : ℕ) → n ≡ told (r .answer) → n ≡ eventNumber im sheet bs e
+  unfolding eventNumber eventTold
+  number-told n h = h ∙ ap (λ (x : Stepped). told (x .answer)) next
+
+  pub sheet-told : (t : List ℕ) → t ≡ eventSheet im sheet s e → t ≡ eventSheet im sheet (sessionFrom bs) e
+  sheet-told t h = rw p at h
+
+  -- a refusal's number leaves the bytes
+  module _ (n : ℕ) (m : n ≡ told (r .answer)) (h : 16777216 ≤ n) where
+    is-refused : refusal ≡ 0 → ⊥
+    is-refused z = omega (arith, told-plain (r .answer) (plain z .given), plain z .near)
 
     pub bytes-refused : bs ≡ eventBytes im sheet bs e
-    unfolding eventBytes
-    bytes-refused = sym (rw (← q) (if-ne k 0 _ _ h))
+    unfolding eventBytes refusal
+    bytes-refused = sym (if-ne _ 0 _ _ is-refused)
 
     pub session-kept : sessionFrom bs ≡ eventStep im sheet (sessionFrom bs) e .session
-    session-kept = ap (λ (x : Stepped). x .session) kept
+    session-kept = ap (λ (x : Stepped). x .session) (refused is-refused ∙ next)
 
-  -- another steps, and its session has the room that it needs
-  module _ (z : k ≡ 0) where
-    granted : Granted im (length sheet) (sessionFrom bs)
-    granted = event-granted im (length sheet) (sessionFrom bs) e (sym q ∙ z) .granted
+  -- with any other they are those of the stepped session, for which there is room
+  module _ (n : ℕ) (m : n ≡ told (r .answer)) (h : n < 16777216) where
+    not-refused : refusal ≡ 0
+    unfolding told
+    not-refused =
+        by-test (refusal =? 0) (λ t. eqb-true refusal 0 t)
+        (λ t. let q = ap (λ (x : Stepped). told (x .answer)) (refused (eqb-false refusal 0 t)) in absurd (omega arith))
 
-    pub room : length bs ≡ 230
-    room = sized im bs (length sheet) granted
+    module _ (t : List ℕ) (w : t ≡ sessionWritten (r .session) bs) where
+      all : t ≡ sessionBytes (r .session)
+      all = written (r .session) bs t (sized im bs (length sheet) (granted not-refused)) w
 
-    pub sheet-stepped : (t : List ℕ) → t ≡ sheetOf im sheet s e → t ≡ eventSheet im sheet (sessionFrom bs) e
-    sheet-stepped t f = rw p at f ∙ stepped-sheet im sheet (sessionFrom bs) e k q z
+      pub bytes-stepped : t ≡ eventBytes im sheet bs e
+      unfolding eventBytes refusal
+      bytes-stepped = all ∙ ap (λ (x : Stepped). sessionBytes (x .session)) next ∙ sym (if-eq _ 0 _ _ not-refused)
 
-    module _ (r : Stepped) (f : r ≡ stepOf im sheet s e) where
-      step : r ≡ stepOf im sheet (sessionFrom bs) e
-      step = rw p at f
-
-      next : r ≡ eventStep im sheet (sessionFrom bs) e
-      next = step ∙ stepped im sheet (sessionFrom bs) e k q z
-
-      pub place-near : placeOf (r .answer) < 65536
-      place-near = rw step (omega (arith, step-plain im sheet (sessionFrom bs) e granted .near))
-
-      pub number-stepped : (n : ℕ) → n ≡ told (r .answer) → n ≡ eventNumber im sheet bs e
-      unfolding eventNumber eventTold
-      number-stepped n h = h ∙ ap (λ (x : Stepped). told (x .answer)) next
-
-      module _ (t : List ℕ) (w : t ≡ sessionBytes (r .session)) where
-        pub bytes-stepped : t ≡ eventBytes im sheet bs e
-        unfolding eventBytes
-        bytes-stepped = w ∙ ap (λ (x : Stepped). sessionBytes (x .session)) next ∙ sym (rw (← q) (if-eq k 0 _ _ z))
-
-        pub session-next : sessionFrom (sessionBytes (r .session)) ≡ r .session → sessionFrom t ≡ eventStep im sheet (sessionFrom bs) e .session
-        session-next b = ap (λ (l : List ℕ). sessionFrom l) w ∙ b ∙ ap (λ (x : Stepped). x .session) next
+      pub session-next : sessionFrom (sessionBytes (r .session)) ≡ r .session → sessionFrom t ≡ eventStep im sheet (sessionFrom bs) e .session
+      session-next b = ap (λ (l : List ℕ). sessionFrom l) all ∙ b ∙ ap (λ (x : Stepped). x .session) next
 
 -- ---- Draw
 

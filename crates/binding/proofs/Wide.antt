@@ -1,25 +1,24 @@
 -- C hands over numbers of 32 bits, and `handset` takes bytes: a number above 255 goes as 255. What is answered stays the same, since no test
 -- of an event or of a shape tells 255 from a number above it, and what passes the tests is small.
 use Prim.Native.Nat.{ℕ, _≤_, _<_, min}
-use mathlib.Core.Path.{_≡_, sym, _∙_}
+use mathlib.Core.Path.{_≡_, refl, sym, _∙_}
 use mathlib.Core.List.{List}
 use native.Mathlib.Nat.{min-eq-left, min-eq-right}
 use native.Mathlib.Omega.{arith}
 use lib.ListN.{length}
-use borrow.Author.Tests.{le-leb, lt-leb, leb-true, leb-false, eqb-true}
+use borrow.Author.Tests.{le-leb, lt-leb, leb-true, leb-false, eqb-true, eqb-false}
 use Rattle.laws.specs.Choice.{if_then_else_, _=?_, _≤?_}
 use Rattle.laws.proofs.Cases.{by-test, if-false, and-l, and-r}
 use Rattle.session.specs.Session.{opened, closed}
 use Rattle.session.specs.Fits.{shapeFits}
 use Rattle.session.specs.declared.session.Session.{Session}
-use Rattle.session.specs.Event.{stepOf, sheetOf}
 use Rattle.session.specs.declared.step.Stepped.{Stepped}
 use Rattle.handset.specs.Refusals.{_before_}
 use Rattle.handset.specs.Open.{openRefusal, openAnswer, openSheet}
-use Rattle.handset.specs.Event.{eventRefusal}
+use Rattle.handset.specs.Event.{eventRefusal, eventStep, eventSheet}
 use Rattle.handset.specs.declared.open.Opened.{Opened}
 use Rattle.handset.proofs.Ordering.{none-before, none-unless}
-use Rattle.handset.proofs.Stepping.{event-granted}
+use Rattle.handset.proofs.Stepping.{event-granted, refused-step, refused-sheet}
 
 -- ---- tests of a cut number
 
@@ -39,25 +38,30 @@ module _ (m n : ℕ) where
 
 -- ---- Event, which gets b for e
 
-module _ (im : List ℕ) (n : ℕ) (s : Session) (e b : ℕ) (p : b ≡ min e 255) where
+module _ (im sheet : List ℕ) (s : Session) (e b : ℕ) (p : b ≡ min e 255) where
   -- all events above 16 are refused alike
-  refusal-wide : eventRefusal im n s b ≡ eventRefusal im n s e
+  refusal-wide : eventRefusal im (length sheet) s b ≡ eventRefusal im (length sheet) s e
   unfolding eventRefusal
   refusal-wide = rw (p, at-most 16 e (omega arith))
 
-  pub refusal-by : (k : ℕ) → k ≡ eventRefusal im n s b → k ≡ eventRefusal im n s e
-  refusal-by k q = q ∙ refusal-wide
-
   -- and an event that is not refused is a byte
-  pub event-small : eventRefusal im n s e ≡ 0 → b ≡ e
-  event-small z = p ∙ min-eq-left (omega (arith, event-granted im n s e z .known))
+  event-small : eventRefusal im (length sheet) s e ≡ 0 → b ≡ e
+  event-small z = p ∙ min-eq-left (omega (arith, event-granted im (length sheet) s e z .known))
 
-module _ (im sheet : List ℕ) (s : Session) {e b : ℕ} where
-  pub step-by : (r : Stepped) → b ≡ e → r ≡ stepOf im sheet s b → r ≡ stepOf im sheet s e
-  step-by r p q = rw p at q
+  -- what Event ensures of the byte, of the number
+  pub step-by : (r : Stepped) → r ≡ eventStep im sheet s b → r ≡ eventStep im sheet s e
+  step-by r q =
+      let k = eventRefusal im (length sheet) s e in
+      by-test (k =? 0)
+      (λ t. rw (event-small (eqb-true k 0 t)) at q)
+      (λ t. q ∙ sym (refused-step im sheet s b k (sym refusal-wide) (eqb-false k 0 t)) ∙ refused-step im sheet s e k refl (eqb-false k 0 t))
 
-  pub sheet-step-by : (t : List ℕ) → b ≡ e → t ≡ sheetOf im sheet s b → t ≡ sheetOf im sheet s e
-  sheet-step-by t p q = rw p at q
+  pub sheet-step-by : (u : List ℕ) → u ≡ eventSheet im sheet s b → u ≡ eventSheet im sheet s e
+  sheet-step-by u q =
+      let k = eventRefusal im (length sheet) s e in
+      by-test (k =? 0)
+      (λ t. rw (event-small (eqb-true k 0 t)) at q)
+      (λ t. q ∙ sym (refused-sheet im sheet s b k (sym refusal-wide) (eqb-false k 0 t)) ∙ refused-sheet im sheet s e k refl (eqb-false k 0 t))
 
 -- ---- Open, which gets a and b for columns and lines
 

@@ -5,12 +5,12 @@ use lib.ListN.{length}
 use Rattle.laws.specs.Choice.{if_then_else_, _=?_}
 use Rattle.session.specs.Session.{closed}
 use Rattle.session.specs.declared.session.Session.{Session}
+use Rattle.session_bytes.specs.Layout.{sessionSize, sessionBytes, sessionFrom, sessionWritten}
 use Rattle.handset.specs.Refusals.{_before_, _unless_}
 use Rattle.handset.specs.Open.{openRefusal, openAnswer, openSheet}
 use Rattle.handset.specs.Event.{eventRefusal, eventStep, eventTold}
 use Rattle.handset.specs.Draw.{drawRefusal, drawCursor}
 use Rattle.handset.specs.OptionText.{textRefusal, textPlace}
-use Rattle.binding.specs.Layout.{sessionSize, sessionBytes, sessionFrom}
 use Rattle.binding.specs.Answers.{refusedBy, cursorNumber}
 
 -- ---- Open, with a session buffer of n bytes: a buffer of another length is refused with 12, after all else, and nothing is altered
@@ -25,7 +25,7 @@ openedSheet im sheet columns lines n = if n =? sessionSize then openSheet im she
 -- the session, closed where it is refused
 unfoldable pub openedBytes : List ℕ → ℕ → ℕ → ℕ → List ℕ → List ℕ
 openedBytes im sheet columns lines bs =
-    if length bs =? sessionSize then sessionBytes (openAnswer im sheet columns lines .session) else bs
+    sessionWritten (openAnswer im sheet columns lines .session) bs
 
 -- the session that the bytes then are, as Open gives it; no buffer of another length is a session that fits
 unfoldable pub openedSession : List ℕ → ℕ → ℕ → ℕ → ℕ → Session

@@ -2,7 +2,7 @@
 ghost use mathlib.Core.Path.{_≡_};
 ghost use Prim.Native.Nat.{min};
 ghost use lib.ListN.{length};
-ghost use Rattle.binding.specs.Layout.{sessionFrom};
+ghost use Rattle.session_bytes.specs.Layout.{sessionFrom};
 ghost use Rattle.binding.specs.Calls.{openNumber, openedSheet, openedBytes, openedSession, eventNumber, eventBytes, drawNumber, textNumber};
 ghost use Rattle.handset.specs.Refusals.{_before_};
 ghost use Rattle.handset.specs.Open.{openRefusal};
@@ -12,12 +12,8 @@ use crate::answer::REFUSED;
 use crate::answer::cursor_number;
 use crate::answer::refused_by;
 use crate::answer::told;
-use crate::layout::SIZE;
-use crate::read::read_session;
-use crate::write::write_session;
 use field::kind::ImagePlace;
 use handset::draw::draw;
-use handset::event::event_refusal;
 use handset::open::open;
 use handset::option::text_place;
 use handset::refusal::NO_SHAPE;
@@ -25,6 +21,9 @@ use handset::refusal::session_refusal;
 use quick::accept::refusal_of;
 use session::fits::shape_fits;
 use session::session::Session;
+use session_bytes::layout::SIZE;
+use session_bytes::read::read_session;
+use session_bytes::write::write_session;
 
 const REFUSED_TEXT: u64 = 4294967296;
 
@@ -88,20 +87,20 @@ pub extern "C" fn handset_event(
     ensures { λ _. ⌜ now (session .exit) ≡ eventBytes (now (image .entry)) (now (sheet .entry)) (now (session .entry)) event ⌝ }
     ensures { λ _. ⌜ sessionFrom (now (session .exit)) ≡ eventStep (now (image .entry)) (now (sheet .entry)) (sessionFrom (now (session .entry))) event .session ⌝ }
 {
-    // The parts of `event`: a session that is handed to it whole is copied once more.
-    let before = read_session(&*session);
-    let faulty = refusal_of(image, sheet.len());
-    let unfit = session_refusal(faulty, image, before);
-    let number = byte_of(event);
-    let refused = event_refusal(unfit, number);
-    if refused != 0 {
-        return refused_by(refused);
-    }
-    let stepped = before.step(image, &mut *sheet, number);
+    let stepped = handset::event::event(
+        image,
+        &mut *sheet,
+        read_session(&*session),
+        byte_of(event),
+    );
     let answer = stepped.answer;
+    let number = told(answer);
+    if REFUSED <= number {
+        return number;
+    }
     let next = stepped.session;
     write_session(&mut *session, next);
-    told(answer)
+    number
 }
 
 #[no_mangle]

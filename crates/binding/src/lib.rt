@@ -1,7 +1,3 @@
 // The calls for C: a session is bytes that the caller keeps, and an answer is one number. include/handset.h declares them.
 pub mod answer;
 pub mod calls;
-pub mod layout;
-pub mod number;
-pub mod read;
-pub mod write;
