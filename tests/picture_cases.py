@@ -8,13 +8,14 @@ from open_cases import *
 TOP = (10, 0, 0)                                # a level: place of its table, cursor line, first shown line (from 0)
 def session(columns, lines, levels, outer=None, visit=None, at=0, cells=(), typed=None, count=None, idle=0, spare=0xEE):
     """The bytes of a session that shows the last level: in a visit if given its place, in an entry if given the typed
-    digits.  Spare bytes stand where the session has no use for them, for fits asks nothing of them (R20b)."""
+    digits.  Spare bytes stand where the session has no use for them, for fits asks nothing of them (R20b).  The layout
+    is the library's: crates/session_bytes/specs/Layout.antt."""
     def filled(given, size, item): return (list(given) + [item] * size)[:size]
-    above = filled(levels[:-1], 7, (spare * 257, spare, spare))
+    above = filled(levels[:-1], 7, (spare * 0x0101010101010101, spare, spare))
     typing = (0, 0) if typed is None else (2, len(typed) if count is None else count)
     mode, of, chosen = (*typing, spare) if visit is None else (1, visit, at)
     return (bytes([columns, lines, len(levels) - 1 if outer is None else outer])
-            + b''.join(pack('<HBB', *level) for level in [*above, levels[-1]]) + pack('<BBHB', idle, mode, of, chosen)
+            + b''.join(pack('<QBB', *level) for level in [*above, levels[-1]]) + pack('<BBQB', idle, mode, of, chosen)
             + pack('<32I', *filled(cells, 32, spare * 0x01010101)) + bytes(filled(typed or (), 8, spare)))
 def draw(name, refusal, img, sheet, shape, levels, length, answer, of):
     sheet = bytes.fromhex(sheet) if isinstance(sheet, str) else sheet

@@ -1,7 +1,6 @@
 // Runs the cases that standard input holds, and prints a line for each: its name and what the calls answer. A program over it has
 // its cases in its `stdin`, and in its `stdout` the lines that the gate compares.
 mod playing;
-mod sitting;
 
 use field::kind::ImagePlace;
 use handset::draw::draw;
@@ -13,6 +12,8 @@ use libc::STDIN_FILENO;
 use libc::STDOUT_FILENO;
 use picture::cursor::EditCursor;
 use session::session::Session;
+use session_bytes::layout::SIZE;
+use session_bytes::read::read_session;
 use walk::check::check;
 
 // A case: check an image, ask for an option's text, open an image on a sheet of bytes 0xEE, draw a session on a picture of
@@ -29,11 +30,28 @@ const PLAY: u8 = 5;
 
 const STEP: u8 = 6;
 
+// The longest picture that a case can have.
+const PICTURE: usize = 256;
+
 // Reads so many bytes of the input to the start of a buffer that has room for them.
 fn read_start(buffer: &mut [u8], count: usize) {
     if count <= buffer.len() {
         io::read_full(STDIN_FILENO, &mut buffer[..count]);
     }
+}
+
+// Two bytes of the input as a number.
+fn read_number() -> usize {
+    let mut bytes = [0u8; 2];
+    io::read_full(STDIN_FILENO, &mut bytes);
+    word_at(&bytes, 0) as usize
+}
+
+// The session that the input gives, as `session_bytes` lays it out.
+fn read_given() -> Session {
+    let mut record = [0u8; SIZE];
+    io::read_full(STDIN_FILENO, &mut record);
+    read_session(&record)
 }
 
 fn write_start(buffer: &[u8], count: usize) {
@@ -131,16 +149,12 @@ fn run_drawn_on(image: &[u8], sheet: &[u8], session: Session, picture: &mut [u8]
     }
 }
 
-// The input of Draw goes on: the sheet's bytes, the picture's length in two bytes, the session as `sitting` lays it out.
+// The input of Draw goes on: the sheet's bytes, the picture's length in two bytes, the session.
 fn run_draw(image: &[u8], sheet: &mut [u8]) {
     io::read_full(STDIN_FILENO, &mut *sheet);
-    let mut count = [0u8; 2];
-    io::read_full(STDIN_FILENO, &mut count);
-    let mut record = [0u8; sitting::SIZE];
-    io::read_full(STDIN_FILENO, &mut record);
-    let session = sitting::session(&record);
-    let mut picture = [0u8; 256];
-    let length = word_at(&count, 0) as usize;
+    let length = read_number();
+    let session = read_given();
+    let mut picture = [0u8; PICTURE];
     run_drawn_on(image, sheet, session, &mut picture, length);
 }
 
@@ -186,12 +200,10 @@ fn run_case(image: &mut [u8], sheet: &mut [u8]) -> bool {
     read_start(&mut *image, count);
     write_start(image, count);
     io::write_all(STDOUT_FILENO, b": ");
-    let mut rest = [0u8; 8];
-    io::read_full(STDIN_FILENO, &mut rest);
-    let length = word_at(&rest, 0) as usize;
-    let room = word_at(&rest, 2) as usize;
-    let place = word_at(&rest, 4) as usize;
-    let item = word_at(&rest, 6) as usize;
+    let length = read_number();
+    let room = read_number();
+    let place = read_number();
+    let item = read_number();
     read_start(&mut *image, length);
     run_on(
         byte_at(&head, 0),

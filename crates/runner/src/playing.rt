@@ -1,19 +1,22 @@
 // Cases of Event: a list of events played from Open on, and one event on a given session. An answer is printed as 't' for taken,
 // 'f' for flash, 'd' and the image place for finished, '!' and the image place for fired, 'r' and the number for refused.
+use crate::PICTURE;
 use crate::fill;
 use crate::print_hex;
 use crate::print_space;
+use crate::read_given;
+use crate::read_number;
 use crate::read_start;
 use crate::run_drawn_on;
-use crate::sitting;
 use handset::event::event;
 use handset::open::open;
 use laws::byte_at;
-use laws::word_at;
 use libc::STDIN_FILENO;
 use libc::STDOUT_FILENO;
 use session::session::Session;
 use session::step::Answer;
+use session_bytes::layout::SIZE;
+use session_bytes::write::write_session;
 
 // How many events a case can have.
 const MOST: usize = 4096;
@@ -63,9 +66,7 @@ fn play_on(image: &[u8], sheet: &mut [u8], start: Session, events: &[u8], count:
 
 // The list of events in the input: its count in two bytes, and the events.
 fn read_events(events: &mut [u8]) -> usize {
-    let mut count = [0u8; 2];
-    io::read_full(STDIN_FILENO, &mut count);
-    let length = word_at(&count, 0) as usize;
+    let length = read_number();
     read_start(&mut *events, length);
     length
 }
@@ -93,25 +94,27 @@ pub fn run_play(image: &[u8], sheet: &mut [u8], columns: u8, lines: u8) {
     let session = play_on(image, &mut *sheet, opened, &events, count);
     print_hex(sheet);
     print_space();
-    let mut picture = [0u8; 256];
+    let mut picture = [0u8; PICTURE];
     run_drawn_on(image, sheet, session, &mut picture, area(columns, lines));
+}
+
+fn print_session(session: Session) {
+    let mut record = [0u8; SIZE];
+    write_session(&mut record, session);
+    print_hex(&record);
 }
 
 // One event on the session and sheet of the input, which goes on as that of Draw does, with the event in two bytes for
 // the picture's length: the answer, the sheet afterwards, and the session handed back.
 pub fn run_step(image: &[u8], sheet: &mut [u8]) {
     io::read_full(STDIN_FILENO, &mut *sheet);
-    let mut number = [0u8; 2];
-    io::read_full(STDIN_FILENO, &mut number);
-    let mut record = [0u8; sitting::SIZE];
-    io::read_full(STDIN_FILENO, &mut record);
-    let given = sitting::session(&record);
-    let stepped = event(image, &mut *sheet, given, byte_at(&number, 0));
+    let number = read_number();
+    let stepped = event(image, &mut *sheet, read_given(), (number % 256) as u8);
     let answer = stepped.answer;
-    let session = stepped.session;
     print_answer(answer);
     print_space();
     print_hex(sheet);
     print_space();
-    sitting::print_session(session);
+    let session = stepped.session;
+    print_session(session);
 }
