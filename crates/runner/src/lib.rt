@@ -94,6 +94,15 @@ fn fill(sheet: &mut [u8]) {
     }
 }
 
+fn print_opened(refusal: u8, columns: u8, lines: u8) {
+    io::print_decimal(STDOUT_FILENO, refusal as u64);
+    io::write_all(STDOUT_FILENO, b" ");
+    io::print_decimal(STDOUT_FILENO, columns as u64);
+    io::write_all(STDOUT_FILENO, b"x");
+    io::print_decimal(STDOUT_FILENO, lines as u64);
+    io::write_all(STDOUT_FILENO, b" ");
+}
+
 // The refusal, what the session's display has, and the sheet afterwards.
 fn run_open(image: &[u8], sheet: &mut [u8], columns: usize, lines: usize) {
     fill(&mut *sheet);
@@ -103,13 +112,7 @@ fn run_open(image: &[u8], sheet: &mut [u8], columns: usize, lines: usize) {
         (columns % 256) as u8,
         (lines % 256) as u8,
     );
-    let session = opened.session;
-    io::print_decimal(STDOUT_FILENO, opened.refusal as u64);
-    io::write_all(STDOUT_FILENO, b" ");
-    io::print_decimal(STDOUT_FILENO, session.columns as u64);
-    io::write_all(STDOUT_FILENO, b"x");
-    io::print_decimal(STDOUT_FILENO, session.lines as u64);
-    io::write_all(STDOUT_FILENO, b" ");
+    print_opened(opened.refusal, opened.session.columns, opened.session.lines);
     print_hex(sheet);
 }
 
@@ -130,16 +133,20 @@ fn print_cursor(cursor: EditCursor) {
     }
 }
 
+fn print_drawn(refusal: u8, cursor: EditCursor, picture: &[u8]) {
+    io::print_decimal(STDOUT_FILENO, refusal as u64);
+    io::write_all(STDOUT_FILENO, b" ");
+    print_cursor(cursor);
+    io::write_all(STDOUT_FILENO, b" ");
+    print_hex(picture);
+}
+
 // The refusal, the edit cursor, and the picture afterwards.
 fn run_drawn(image: &[u8], sheet: &[u8], session: Session, picture: &mut [u8]) {
     fill(&mut *picture);
     let drawn = draw(image, sheet, session, &mut *picture);
     let cursor = drawn.cursor;
-    io::print_decimal(STDOUT_FILENO, drawn.refusal as u64);
-    io::write_all(STDOUT_FILENO, b" ");
-    print_cursor(cursor);
-    io::write_all(STDOUT_FILENO, b" ");
-    print_hex(picture);
+    print_drawn(drawn.refusal, cursor, picture);
 }
 
 // The same on the start of a picture.

@@ -40,17 +40,22 @@ fn print_answer(answer: Answer) {
     }
 }
 
+// Plays an event, prints the answer, and hands back the session that comes of it.
+fn play_one(image: &[u8], sheet: &mut [u8], session: Session, number: u8) -> Session {
+    let stepped = event(image, &mut *sheet, session, number);
+    let answer = stepped.answer;
+    print_answer(answer);
+    print_space();
+    stepped.session
+}
+
 // Plays the events one after another, each on the session and sheet that the one before it left; prints the answers,
 // and hands back the session reached.
 fn play(image: &[u8], sheet: &mut [u8], start: Session, events: &[u8]) -> Session {
     let mut session = start;
     let mut i = 0;
     while i < events.len() {
-        let stepped = event(image, &mut *sheet, session, byte_at(events, i));
-        session = stepped.session;
-        let answer = stepped.answer;
-        print_answer(answer);
-        print_space();
+        session = play_one(image, &mut *sheet, session, byte_at(events, i));
         i = i + 1;
     }
     session
@@ -109,12 +114,8 @@ fn print_session(session: Session) {
 pub fn run_step(image: &[u8], sheet: &mut [u8]) {
     io::read_full(STDIN_FILENO, &mut *sheet);
     let number = read_number();
-    let stepped = event(image, &mut *sheet, read_given(), (number % 256) as u8);
-    let answer = stepped.answer;
-    print_answer(answer);
-    print_space();
+    let session = play_one(image, &mut *sheet, read_given(), (number % 256) as u8);
     print_hex(sheet);
     print_space();
-    let session = stepped.session;
     print_session(session);
 }

@@ -4,6 +4,7 @@ use crate::words::say_number;
 use crate::words::say_plain;
 use acceptance::index::Entry;
 use acceptance::index::entry_at;
+use field::kind::ImagePlace;
 use handset::option::option_text;
 use laws::byte_at;
 use libc::STDOUT_FILENO;
@@ -32,10 +33,8 @@ fn print_bytes(sheet: &[u8], from: usize, size: usize) {
 }
 
 // The text of the item that an option's byte chooses; nothing for other fields.
-fn print_item(image: &[u8], sheet: &[u8], e: Entry) {
+fn print_item(image: &[u8], sheet: &[u8], place: ImagePlace, item: usize) {
     let mut refusal = 0;
-    let place = e.place;
-    let item = byte_at(sheet, e.from.0) as usize;
     let text = option_text(image, sheet, place, item, &mut refusal);
     if refusal == 0 {
         say(b" ");
@@ -54,7 +53,8 @@ fn print_field(image: &[u8], sheet: &[u8], e: Entry) {
     say_number(e.from.0);
     say(b":");
     print_bytes(sheet, e.from.0, e.size);
-    print_item(image, sheet, e);
+    let place = e.place;
+    print_item(image, sheet, place, byte_at(sheet, e.from.0) as usize);
     say(b"\n");
 }
 

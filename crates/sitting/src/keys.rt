@@ -48,6 +48,15 @@ fn event_of(letter: u8) -> u8 {
     }
 }
 
+// Plays an event, says what was pressed and answered, and hands back the session that comes of it.
+fn step(image: &[u8], sheet: &mut [u8], session: Session, number: u8) -> Session {
+    let stepped = event(image, &mut *sheet, session, number);
+    let answer = stepped.answer;
+    print_key(number);
+    print_answer(answer);
+    stepped.session
+}
+
 // Plays a letter of the keys, and hands back the session that comes of it.
 fn play(image: &[u8], sheet: &mut [u8], session: Session, letter: u8) -> Session {
     if letter == NEWLINE {
@@ -58,11 +67,7 @@ fn play(image: &[u8], sheet: &mut [u8], session: Session, letter: u8) -> Session
     if number == NONE {
         return session;
     }
-    let stepped = event(image, &mut *sheet, session, number);
-    let answer = stepped.answer;
-    print_key(number);
-    print_answer(answer);
-    stepped.session
+    step(image, &mut *sheet, session, number)
 }
 
 // The picture at the end of keys whose last line has no end.

@@ -64,16 +64,20 @@ fn print_rows(picture: &[u8], cursor: EditCursor) {
     }
 }
 
+fn print_drawn(refusal: u8, cursor: EditCursor, picture: &[u8]) {
+    if refusal != 0 {
+        say_refusal(refusal);
+        return;
+    }
+    print_edge();
+    print_rows(picture, cursor);
+    print_edge();
+}
+
 // The picture of a session.
 pub fn show(image: &[u8], sheet: &[u8], session: Session) {
     let mut picture = [0u8; WIDTH * ROWS];
     let drawn = draw(image, sheet, session, &mut picture);
     let cursor = drawn.cursor;
-    if drawn.refusal != 0 {
-        say_refusal(drawn.refusal);
-        return;
-    }
-    print_edge();
-    print_rows(&picture, cursor);
-    print_edge();
+    print_drawn(drawn.refusal, cursor, &picture);
 }

@@ -19,14 +19,8 @@ loop-holds c = (omega arith, refl)
 byte-at-requires : tie.Need-byte-at-requires Inv-loop μ-loop
 byte-at-requires c κs = search needs
 
-event-requires : tie.Need-event-requires Inv-loop μ-loop
-event-requires c κs = search needs
-
-print-answer-requires : tie.Need-print-answer-requires Inv-loop μ-loop
-print-answer-requires c κs = search needs
-
-print-space-requires : tie.Need-print-space-requires Inv-loop μ-loop
-print-space-requires c κs = search needs
+play-one-requires : tie.Need-play-one-requires Inv-loop μ-loop
+play-one-requires c κs = search needs
 
 add-i : tie.Need-add-i Inv-loop μ-loop
 add-i c = omega arith
@@ -35,7 +29,7 @@ loop-less : tie.Need-loop-less Inv-loop μ-loop
 loop-less c = omega arith
 
 loop-again : tie.Need-loop-again Inv-loop μ-loop
-loop-again c = (omega arith, c .before .before .before .before .before .event .kept .1 .0 ∙ c .before .before .before .before .before .before .before .before .before .loop .inv .1)
+loop-again c = (omega arith, c .before .before .play-one .kept .1 .0 ∙ c .before .before .before .before .before .before .loop .inv .1)
 
 same-length : tie.Need-same-length Inv-loop μ-loop
 same-length c = c .before .loop .inv .1
@@ -51,9 +45,7 @@ play-spec =
     μ-loop
     loop-holds
     byte-at-requires
-    event-requires
-    print-answer-requires
-    print-space-requires
+    play-one-requires
     add-i
     loop-less
     loop-again
