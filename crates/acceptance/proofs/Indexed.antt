@@ -4,14 +4,14 @@ use Prim.Native.Nat.{ℕ, zero, suc, _+_, _-_, _*_, _≤_, _<_}
 use mathlib.Core.Path.{_≡_, refl, sym, ap, _∙_}
 use mathlib.Core.List.{List, [], _∷_, _++_}
 use native.Mathlib.Omega.{arith}
-use lib.ListN.{length, getD, set, length-append, List·getD-eq-default}
+use lib.ListN.{length, getD, set, take, length-append, List·getD-eq-default}
 use lib.Seq.{getD-set-other, ext-getD}
 use borrow.Author.Tests.{ltb-true, ltb-false}
 use Rattle.laws.specs.Choice.{_<?_}
 use Rattle.laws.specs.Overwrite.{fit}
 use Rattle.laws.proofs.Cases.{by-test, if-ind, if-lt}
 use Rattle.laws.proofs.Lists.{getD-left, getD-right}
-use Rattle.laws.proofs.Overwriting.{length-fit, fit-at}
+use Rattle.laws.proofs.Overwriting.{length-fit, fit-at, take-fit}
 use Rattle.cmf.specs.Limits.{mostFields}
 use Rattle.cmf.specs.declared.title.Title.{Title}
 use Rattle.cmf.specs.declared.head.Head.{Head}
@@ -19,7 +19,8 @@ use Rattle.acceptance.specs.declared.index.Entry.{Entry}
 use Rattle.acceptance.specs.declared.state.Walk.{Walk}
 use Rattle.acceptance.specs.Check.{State, takeTitle, takeLine}
 use Rattle.acceptance.proofs.CodeSteps.{title-fields, line-fields}
-use Rattle.acceptance.specs.Index.{capacity, entryAt, listed, withEntry, seen, numbersOf, indexOf, Clean, StaysClean}
+use Rattle.acceptance.specs.Index.{entry, capacity, entryAt, listed, withEntry, seen, numbersOf, indexOf}
+use Rattle.acceptance.specs.Clean.{Clean, StaysClean}
 
 -- ---- zeros
 
@@ -114,8 +115,43 @@ module _ (xs : List ℕ) where
       c .zeros i g
       ∙ sym (fit-at 0 (3 * mostFields) n i (omega arith) ∙ List·getD-eq-default n 0 {n = i} (omega (arith, listed-long k)))))
 
--- and so it is the index of the fields that the walk has taken
+-- and so, with the walk, it settles what the check found
 pub settled : (s : State) (w : Walk) (xs ys : List ℕ) → xs ≡ indexOf [] → length ys ≡ length xs → StaysClean 0 xs (w .fields) ys → seen w ys ≡ s
-    → (seen w ys ≡ s) × (ys ≡ indexOf (s .fields))
-settled s w xs ys f l c e =
-    (e, is-index ys (w .fields) (l ∙ ap length f ∙ length-index []) (c (rw f clean-first)) ∙ ap (λ (t : State). indexOf (t .fields)) e)
+    → (w ≡ s .walk) × (ys ≡ indexOf (s .fields))
+settled s w xs ys f l c e = (
+  ap (λ (t : State). t .walk) e,
+  is-index ys (w .fields) (l ∙ ap length f ∙ length-index []) (c (rw f clean-first)) ∙ ap (λ (t : State). indexOf (t .fields)) e,
+)
+
+-- ---- the entries are read back
+
+numbers-same : (es fs : List Entry) → numbersOf es ≡ numbersOf fs → es ≡ fs
+unfolding numbersOf
+numbers-same [] [] q = refl
+numbers-same [] (f ∷ fs) q = absurd (omega (arith, ap length q))
+numbers-same (e ∷ es) [] q = absurd (omega (arith, ap length q))
+numbers-same (e ∷ es) (f ∷ fs) q =
+    let a : e .place .0 ≡ f .place .0 = cc in
+    let b : e .from .0 ≡ f .from .0 = cc in
+    let c : e .size ≡ f .size = cc in
+    let i : entry (e .place .0) (e .from .0) (e .size) ≡ entry (f .place .0) (f .from .0) (f .size) = rw (a, b, c) in
+    let r : numbersOf es ≡ numbersOf fs = cc in
+    ap (λ (x : Entry). x ∷ es) i ∙ ap (λ (xs : List Entry). f ∷ xs) (numbers-same es fs r)
+
+clean-index : (es : List Entry) → Clean (length es) (indexOf es)
+unfolding indexOf
+clean-index es = record {
+  zeros = λ i h. by-test (i <? 3 * mostFields)
+      (λ e. fit-at 0 (3 * mostFields) (numbersOf es) i (ltb-true i (3 * mostFields) e) ∙ List·getD-eq-default (numbersOf es) 0 {n = i} (omega (arith, numbers-long es)))
+      (λ e. List·getD-eq-default (fit 0 (3 * mostFields) (numbersOf es)) 0 {n = i} (omega (arith, ltb-false i (3 * mostFields) e, length-fit 0 (3 * mostFields) (numbersOf es))));
+}
+
+pub listed-index : (es : List Entry) → length es ≤ mostFields → listed (indexOf es) (length es) ≡ es
+unfolding indexOf
+listed-index es h =
+    let xs = indexOf es in
+    let k = length es in
+    let same : xs ≡ indexOf (listed xs k) = is-index xs k (length-index es) (clean-index es) in
+    let first : take (3 * k) xs ≡ numbersOf es = take-fit 0 (3 * mostFields) (3 * k) (numbersOf es) (numbers-long es) (omega arith) in
+    let again : take (3 * k) (indexOf (listed xs k)) ≡ numbersOf (listed xs k) = take-fit 0 (3 * mostFields) (3 * k) (numbersOf (listed xs k)) (listed-long xs k) (omega arith) in
+    numbers-same (listed xs k) es (sym again ∙ ap (take (3 * k)) (sym same) ∙ first)

@@ -1,6 +1,5 @@
 -- The reached fields in an array of numbers, three to a field, as a list of entries in the order of the walk.
-use Prim.Native.Nat.{ℕ, zero, suc, _+_, _*_, _/_, _≤_}
-use mathlib.Core.Path.{_≡_}
+use Prim.Native.Nat.{ℕ, zero, suc, _+_, _*_, _/_}
 use mathlib.Core.List.{List, [], _∷_, _++_}
 use lib.ListN.{length, getD, set}
 use Rattle.laws.specs.Choice.{if_then_else_, _<?_}
@@ -43,11 +42,3 @@ numbersOf (e ∷ es) = e .place .0 ∷ e .from .0 ∷ e .size ∷ numbersOf es
 -- the whole array: the numbers of the reached fields, and zeros for as many more as there may be
 unfoldable pub indexOf : List Entry → List ℕ
 indexOf es = fit 0 (3 * mostFields) (numbersOf es)
-
--- past its first k entries an array is zeros
-pub record Clean (k : ℕ) (xs : List ℕ) : Type 0 where
-  pub zeros : (i : ℕ) → 3 * k ≤ i → getD xs i 0 ≡ 0
-
--- from an array with k entries to one with j: where the first was its entries and zeros, so is the second
-abbrev pub StaysClean : ℕ → List ℕ → ℕ → List ℕ → Type 0
-StaysClean k xs j ys = Clean k xs → Clean j ys

@@ -1,3 +1,4 @@
 pub mod Check
 pub mod Index
+pub mod Clean
 pub mod Faults

@@ -13,6 +13,8 @@ use Rattle.cmf.specs.Readers.{itemPlace, componentAt}
 use Rattle.acceptance.specs.Check.{State, checked, refusalOf}
 use Rattle.acceptance.specs.Index.{entryAt, listed}
 use Rattle.acceptance.specs.declared.index.Entry.{Entry}
+use Rattle.acceptance.specs.declared.state.Walk.{Walk}
+use Rattle.handset.proofs.Ordering.{first-given}
 use Rattle.handset.specs.Refusals.{_before_, _unless_}
 use Rattle.handset.specs.OptionText.{reached, itemsIn, textRefusal, textAt, textPlace, optionText}
 use Rattle.handset.specs.declared.option.TextPlace.{TextPlace}
@@ -63,6 +65,11 @@ pub refusal-is : (im : List ℕ) (sheet place item : ℕ) (s : State) → s ≡ 
     ≡ s .walk .refusal before (14 unless (reached place (s .fields) and (item <? itemsIn (componentAt im place .field .kind))))
 unfolding textRefusal refusalOf
 refusal-is im sheet place item s e = rw e
+
+-- a bad image
+pub refusal-bad : (im : List ℕ) (sheet place item : ℕ) (w : Walk) → w ≡ checked im sheet .walk → (w .refusal ≡ 0 → ⊥) → w .refusal ≡ textRefusal im sheet place item
+unfolding textRefusal refusalOf
+refusal-bad im sheet place item w e h = rw e (sym (first-given _ _ (rw e at h)))
 
 -- where the text of a call that is refused is, and of one that is not
 pub place-none : (im : List ℕ) (sheet place item : ℕ) → (textRefusal im sheet place item ≡ 0 → ⊥)

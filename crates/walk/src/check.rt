@@ -6,7 +6,8 @@ ghost use Rattle.laws.specs.Bytes.{byteAt};
 ghost use lib.ListN.{length};
 ghost use Rattle.cmf.specs.Places.{componentsFrom};
 ghost use Rattle.acceptance.specs.Check.{padded, takeTitle, agrees, linePlaced, countLine, takeLine, takeField, takeComponent, onComponents, onLine, onTable, prologCode, checked};
-ghost use Rattle.acceptance.specs.Index.{capacity, seen, indexOf, StaysClean};
+ghost use Rattle.acceptance.specs.Index.{capacity, seen, indexOf};
+ghost use Rattle.acceptance.specs.Clean.{StaysClean};
 use acceptance::index::Entry;
 use acceptance::index::apart_from;
 use acceptance::index::set_entry;
@@ -313,7 +314,7 @@ fn has_pair(image: &[u8], at: usize, low: u8, high: u8) -> bool
 
 // The refusal number of an image for a sheet of so many bytes, 0 for none, and the fields that were reached, with zeros after them.
 pub fn check(image: &[u8], sheet: usize) -> Checked
-    ensures { λ r. ⌜ seen (r .walk) (r .index) ≡ checked (now (image .entry)) sheet ⌝ }
+    ensures { λ r. ⌜ r .walk ≡ checked (now (image .entry)) sheet .walk ⌝ }
     ensures { λ r. ⌜ r .index ≡ indexOf (checked (now (image .entry)) sheet .fields) ⌝ }
 {
     let mut index = [0usize; INDEX];

@@ -11,7 +11,8 @@ use Prim.Native.Nat.{ℕ, _+_, _-_, _/_, _<_}
 use mathlib.Core.Path.{_≡_, refl, sym, ap, _∙_}
 use lib.ListN.{length}
 use Rattle.acceptance.specs.Check.{onLines, onTable}
-use Rattle.acceptance.specs.Index.{capacity, seen, StaysClean}
+use Rattle.acceptance.specs.Index.{capacity, seen}
+use Rattle.acceptance.specs.Clean.{StaysClean}
 use Rattle.cmf.specs.Places.{linesFrom}
 use Rattle.acceptance.proofs.Indexed.{clean-head, clean-title}
 use Rattle.acceptance.proofs.CodeSteps.{line-stop, line-bad, line-plain, line-deep, lines-stop, lines-last, lines-next, lines-done, table-stop, table-deep, table-lines}

@@ -4,7 +4,8 @@ use Prim.Native.Nat.{ℕ, _+_, _/_}
 use mathlib.Core.Path.{_≡_, refl, sym, ap, _∙_}
 use lib.ListN.{length}
 use Rattle.acceptance.specs.Check.{onComponents}
-use Rattle.acceptance.specs.Index.{capacity, seen, StaysClean}
+use Rattle.acceptance.specs.Index.{capacity, seen}
+use Rattle.acceptance.specs.Clean.{StaysClean}
 use Rattle.cmf.specs.Places.{componentsFrom}
 use Rattle.acceptance.proofs.CodeSteps.{components-stop, components-last, components-next, components-done}
 use borrow.Author.Needs.{needs}
