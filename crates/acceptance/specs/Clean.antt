@@ -1,5 +1,5 @@
--- Nobody has to believe this file: what the check's functions hand on to each other of the index after its last entry. `check` itself
--- equates the whole array with `indexOf`.
+-- Nobody has to believe this file: what the check's functions hand on to each other of the index after its
+-- last entry. `check` itself equates the whole array with `indexOf`.
 use Prim.Native.Nat.{ℕ, _*_, _≤_}
 use mathlib.Core.Path.{_≡_}
 use mathlib.Core.List.{List}
