@@ -11,7 +11,7 @@ use Rattle.field.specs.declared.record.Field.{Field}
 use Rattle.cmf.specs.Limits.{mostLinesOfTable, deepestTable, prologBytes}
 use Rattle.cmf.specs.Readers.{evenFrom, headAt, componentAt}
 use Rattle.cmf.specs.Places.{linesFrom, linesOf, componentsFrom, componentsOf, heldBy, lineReach, linesReach, tableReach, componentPlaces, fieldsAmong, fieldsOf}
-use Rattle.cmf.specs.Layouts.{Component, Components}
+use Rattle.cmf.specs.Layouts.{Components}
 use Rattle.cmf.specs.Grammar.{Head, Line, Lines, Table, WellFormed, nextLine}
 use Rattle.cmf.proofs.Agreement.{Agree}
 use Rattle.acceptance.proofs.Parts.{places-last, places-more, last-true, last-false, no-turns, turn}

@@ -34,7 +34,7 @@ use Rattle.acceptance.proofs.Acceptance.{accepted-exactly-when-well-formed, sam
 use Rattle.acceptance.proofs.Fields.{others-apart, field-inside}
 use Rattle.acceptance.proofs.Reach.{part-of}
 use Rattle.session.specs.Events.{up, down, left, right, enter, second, lastDigitKey}
-use Rattle.session.specs.Fits.{cursorLine, cursorHead, workFits, visitFits, modeFits, sessionFits}
+use Rattle.session.specs.Fits.{cursorLine, workFits, visitFits, modeFits, sessionFits}
 use Rattle.session.specs.Steps.{taken, flash, withIdle, browsing, isFlash, isRefused}
 use Rattle.session.specs.Seconds.{browseSecond, entrySecond}
 use Rattle.session.specs.Browsing.{upStep, downStep, leftStep, descended, rightStep, visitAt, enterAt, enterStep, browseStep}

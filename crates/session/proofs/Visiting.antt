@@ -1,9 +1,8 @@
 -- A visit's keys and what follows from them, from what the callees ensure; over variables, so that a proof cites one line.
 use Prim.Native.Nat.{ℕ, _≤_, _<_}
 use mathlib.Core.Path.{_≡_, sym, ap, _∙_}
-use mathlib.Core.Bool.{true, false}
 use mathlib.Core.List.{List}
-use Rattle.laws.proofs.Cases.{if-true, if-false, if-eq, if-ne, if-le, if-gt}
+use Rattle.laws.proofs.Cases.{if-eq, if-ne, if-le, if-gt}
 use Rattle.field.specs.Table.{profileOf, cellOf}
 use Rattle.keys.specs.Keys.{digitKey, flash}
 use Rattle.field.specs.declared.kind.Kind.{Kind}
@@ -14,7 +13,7 @@ use Rattle.cmf.specs.Readers.{componentAt}
 use Rattle.cmf.specs.Places.{nextEditable}
 use Rattle.cmf.specs.declared.place.Found.{Found}
 use Rattle.cmf.specs.declared.component.Component.{Component}
-use Rattle.session.specs.Steps.{taken, withIdle, browsing}
+use Rattle.session.specs.Steps.{taken, withIdle}
 use Rattle.session.specs.Visits.{pressed, movedTo, movedOn, followed, followedSheet, visitStep, visitSheet}
 use Rattle.session.specs.Event.{stepIn, sheetIn, stepOf, sheetOf}
 use Rattle.session.specs.declared.session.Mode.{Mode}

@@ -3,7 +3,7 @@ use Rattle.handset.specs.Refusals.{_before_, _unless_}
 use Rattle.handset.proofs.Finding.{refusal-is, refusal-bad}
 use Rattle.acceptance.proofs.Acceptance.{index-read}
 use Rattle.laws.specs.Choice.{if_then_else_, _and_}
-use borrow.Author.Tests.{lt-ltb, le-ltb, eq-eqb, ne-eqb, not-true, not-false}
+use borrow.Author.Tests.{lt-ltb, le-ltb, eq-eqb, not-true, not-false}
 use Rattle.laws.proofs.Cases.{via}
 use borrow.Author.Needs.{needs}
 use Rattle.handset.proofs.option.text_refusal.Statement.{statement}
