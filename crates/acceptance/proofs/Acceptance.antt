@@ -14,7 +14,7 @@ use Rattle.acceptance.specs.Check.{state, entryOf, checked, refusalOf}
 use Rattle.acceptance.proofs.Accepted as accepted
 use Rattle.acceptance.specs.Index.{listed, seen, indexOf}
 use Rattle.acceptance.specs.declared.index.Entry.{Entry}
-use Rattle.acceptance.specs.declared.state.Walk.{Walk}
+use Rattle.acceptance.specs.declared.progress.Progress.{Progress}
 use Rattle.acceptance.proofs.Indexed.{listed-index}
 use Rattle.acceptance.proofs.Places as places
 use Rattle.acceptance.proofs.Turns as turns
@@ -36,15 +36,15 @@ module _ (im : List ℕ) (sheet : ℕ) where
   checked-fields z = let w = accepted-exactly-when-well-formed .0 z in counted w .index ∙ ap (map entryOf) (fields-are w)
 
   -- what the check hands out is read back, where it refuses nothing
-  pub index-read : (v : Walk) (xs : List ℕ) → v ≡ checked im sheet .walk → xs ≡ indexOf (checked im sheet .fields) → v .refusal ≡ 0 → seen v xs ≡ checked im sheet
+  pub index-read : (v : Progress) (xs : List ℕ) → v ≡ checked im sheet .progress → xs ≡ indexOf (checked im sheet .fields) → v .refusal ≡ 0 → seen v xs ≡ checked im sheet
   unfolding refusalOf
   index-read v xs e f z =
-      let w = accepted-exactly-when-well-formed .0 (ap (λ (u : Walk). u .refusal) (sym e) ∙ z) in
+      let w = accepted-exactly-when-well-formed .0 (ap (λ (u : Progress). u .refusal) (sym e) ∙ z) in
       let c = counted w in
-      let n : checked im sheet .walk .fields ≡ length (checked im sheet .fields) = c .fields ∙ sym (length-map (w .fields) entryOf) ∙ ap length (sym (c .index)) in
+      let n : checked im sheet .progress .fields ≡ length (checked im sheet .fields) = c .fields ∙ sym (length-map (w .fields) entryOf) ∙ ap length (sym (c .index)) in
       let few : length (checked im sheet .fields) ≤ mostFields = omega (arith, n, c .fields, w .few-fields) in
       let q : listed xs (v .fields) ≡ checked im sheet .fields = rw (e, f, n) (listed-index (checked im sheet .fields) few) in
-      ap (λ (es : List Entry). state v es) q ∙ ap (λ (u : Walk). state u (checked im sheet .fields)) e
+      ap (λ (es : List Entry). state v es) q ∙ ap (λ (u : Progress). state u (checked im sheet .fields)) e
 
 -- an image is read in one way only: its fields do not depend on the sheet
 pub same-fields : (im : List ℕ) (a b : ℕ) (v : WellFormed im a) (w : WellFormed im b) → v .fields ≡ w .fields

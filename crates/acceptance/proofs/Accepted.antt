@@ -65,9 +65,9 @@ module _ (im : List ℕ) (sheet : ℕ) (A : Agree im) where
 
   pub well-formed-is-accepted : WellFormed im sheet → refusalOf im sheet ≡ 0
   unfolding refusalOf
-  well-formed-is-accepted w = ap (λ (s : State). s .walk .refusal) (walked-is w .is)
+  well-formed-is-accepted w = ap (λ (s : State). s .progress .refusal) (walked-is w .is)
 
-  accepted-walk : walked im sheet .walk .refusal ≡ 0 → Prolog im → WellFormed im sheet
+  accepted-walk : walked im sheet .progress .refusal ≡ 0 → Prolog im → WellFormed im sheet
   unfolding walked fine
   accepted-walk z p =
       let r = table-read im A sheet mostFields deepestTable prologBytes 0 0 [] (eq-eqb _ 0 z) in
@@ -86,7 +86,7 @@ module _ (im : List ℕ) (sheet : ℕ) (A : Agree im) where
   pub accepted-is-well-formed : refusalOf im sheet ≡ 0 → WellFormed im sheet
   unfolding refusalOf checked
   accepted-is-well-formed =
-      if-ind (λ (s : State). s .walk .refusal ≡ 0 → WellFormed im sheet) (prologCode im =? 0)
+      if-ind (λ (s : State). s .progress .refusal ≡ 0 → WellFormed im sheet) (prologCode im =? 0)
       (λ e z. accepted-walk z (prolog-read im (eqb-true _ 0 e)))
       (λ e z. absurd (eqb-false (prologCode im) 0 e z))
 
@@ -97,15 +97,15 @@ accepted-exactly-when-well-formed im sheet A = (accepted-is-well-formed im sheet
 
 -- what the check has counted and put into the index
 pub record Counted (im : List ℕ) (sheet : ℕ) (w : WellFormed im sheet) : Type 0 where
-  pub lines : checked im sheet .walk .lines ≡ w .lines
-  pub fields : checked im sheet .walk .fields ≡ length (w .fields)
+  pub lines : checked im sheet .progress .lines ≡ w .lines
+  pub fields : checked im sheet .progress .fields ≡ length (w .fields)
   pub index : checked im sheet .fields ≡ map entryOf (w .fields)
 
 pub counted : (im : List ℕ) (sheet : ℕ) → Agree im → (w : WellFormed im sheet) → Counted im sheet w
 counted im sheet A w =
     let e = walked-is im sheet A w .is in
     record {
-      lines = ap (λ (s : State). s .walk .lines) e;
-      fields = ap (λ (s : State). s .walk .fields) e ∙ length-map (w .fields) entryOf;
+      lines = ap (λ (s : State). s .progress .lines) e;
+      fields = ap (λ (s : State). s .progress .fields) e ∙ length-map (w .fields) entryOf;
       index = ap (λ (s : State). s .fields) e;
     }

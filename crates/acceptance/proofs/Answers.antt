@@ -11,8 +11,8 @@ use Rattle.field.specs.declared.record.Field.{Field}
 use Rattle.cmf.specs.Limits.{mostFields}
 use Rattle.acceptance.specs.declared.index.Entry.{Entry}
 use Rattle.acceptance.specs.Check.{State, fine, andThen, entryOf, onHead, onComponent}
-use Rattle.acceptance.specs.Faults.{Structure, Place, Applies, InComponents, InLine, InLines, InTableOver, TitleOnly, InTable}
-use Rattle.acceptance.proofs.Stood.{stood}
+use Rattle.acceptance.specs.Faults.{Structure, FirstOfParity, Applies, InComponents, InLine, InLines, InTableOver, TitleOnly, InTable}
+use Rattle.acceptance.proofs.CameTo.{cameTo}
 use Rattle.acceptance.proofs.Judging.{Judged, titleAnswer, title-judged, head-judged}
 use Rattle.acceptance.proofs.PartJudging.{part-judged}
 
@@ -21,14 +21,14 @@ use Rattle.acceptance.proofs.PartJudging.{part-judged}
 -- the refusal with which the check answers at a structure that has so many lines and these fields before it
 abbrev pub answer : List ℕ → ℕ → ℕ → Structure → ℕ → List Entry → ℕ
 answer im sheet most (Structure.title left t) lines es = titleAnswer im left t
-answer im sheet most (Structure.head n before at p) lines es = onHead im sheet most n before p (stood at lines es) .walk .refusal
-answer im sheet most (Structure.component at p) lines es = onComponent im sheet most p (stood at lines es) .walk .refusal
+answer im sheet most (Structure.head n before at p) lines es = onHead im sheet most n before p (cameTo at lines es) .progress .refusal
+answer im sheet most (Structure.component at p) lines es = onComponent im sheet most p (cameTo at lines es) .progress .refusal
 
 -- a component that the walk comes to stands at the first even offset
 pub data Sits : Structure → Type 0 where
   title : {left t : ℕ} → Sits (Structure.title left t)
   head : {n before at p : ℕ} → Sits (Structure.head n before at p)
-  component : {at p : ℕ} → Place 0 at p → Sits (Structure.component at p)
+  component : {at p : ℕ} → FirstOfParity 0 at p → Sits (Structure.component at p)
 
 module _ (im : List ℕ) where
   sits-components : {at : ℕ} {x : Structure} {fs : List Field} → InComponents im at x fs → Sits x
@@ -70,22 +70,22 @@ judged im sheet lines fs (Structure.component at p) (Sits.component o) = part-ju
 -- ---- two steps in turn
 
 -- a refusal of the first is that of both
-pub stops : (x y : State) (r : ℕ) → 0 < r → x .walk .refusal ≡ r → andThen x y .walk .refusal ≡ r
+pub stops : (x y : State) (r : ℕ) → 0 < r → x .progress .refusal ≡ r → andThen x y .progress .refusal ≡ r
 unfolding andThen fine
 stops x y r h e =
-    if-ind (λ (s : State). s .walk .refusal ≡ r) (x .walk .refusal =? 0) (λ q. absurd (omega (arith, eqb-true (x .walk .refusal) 0 q))) (λ _. e)
+    if-ind (λ (s : State). s .progress .refusal ≡ r) (x .progress .refusal =? 0) (λ q. absurd (omega (arith, eqb-true (x .progress .refusal) 0 q))) (λ _. e)
 
 -- a refusal of both is that of the first, or the first is fine and it is that of the second
 pub data Turn (x y : State) (r : ℕ) : Type 0 where
-  stopped : x .walk .refusal ≡ r → Turn x y r
-  went : fine x ≡ true → y .walk .refusal ≡ r → Turn x y r
+  stopped : x .progress .refusal ≡ r → Turn x y r
+  went : fine x ≡ true → y .progress .refusal ≡ r → Turn x y r
 
-pub turn : (x y : State) (r : ℕ) → andThen x y .walk .refusal ≡ r → Turn x y r
+pub turn : (x y : State) (r : ℕ) → andThen x y .progress .refusal ≡ r → Turn x y r
 unfolding andThen fine
 turn x y r =
-    if-ind (λ (s : State). s .walk .refusal ≡ r → Turn x y r) (x .walk .refusal =? 0) (λ q e. Turn.went q e) (λ _ e. Turn.stopped e)
+    if-ind (λ (s : State). s .progress .refusal ≡ r → Turn x y r) (x .progress .refusal =? 0) (λ q e. Turn.went q e) (λ _ e. Turn.stopped e)
 
 -- what is fine has no refusal
-pub fine-none : {A : Type 0} (x : State) (r : ℕ) → 0 < r → fine x ≡ true → x .walk .refusal ≡ r → A
+pub fine-none : {A : Type 0} (x : State) (r : ℕ) → 0 < r → fine x ≡ true → x .progress .refusal ≡ r → A
 unfolding fine
-fine-none x r h f e = absurd (omega (arith, eqb-true (x .walk .refusal) 0 f))
+fine-none x r h f e = absurd (omega (arith, eqb-true (x .progress .refusal) 0 f))

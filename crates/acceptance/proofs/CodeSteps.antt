@@ -16,10 +16,10 @@ use Rattle.cmf.specs.Places.{linesFrom, linesOf, componentsFrom, componentsOf}
 use Rattle.cmf.specs.declared.title.Title.{Title}
 use Rattle.cmf.specs.declared.head.Head.{Head}
 use Rattle.cmf.specs.declared.component.Component.{Component}
-use Rattle.acceptance.specs.Check.{State, state, fine, refused, behind, andThen, takeTitle, countLine, takeLine, apart, apartFrom, takeComponent, onComponent, onComponents, onHead, onTitle, onSubmenu, onBody, onLine, onLines, onTable}
+use Rattle.acceptance.specs.Check.{State, state, fine, refused, pastLine, andThen, takeTitle, countLine, takeLine, apart, apartFrom, takeComponent, onComponent, onComponents, onHead, onTitle, onSubmenu, onBody, onLine, onLines, onTable}
 use Rattle.acceptance.specs.Index.{entry, capacity, entryAt, listed, withEntry, seen}
 use Rattle.acceptance.specs.declared.index.Entry.{Entry}
-use Rattle.acceptance.specs.declared.state.Walk.{Walk}
+use Rattle.acceptance.specs.declared.progress.Progress.{Progress}
 
 -- ---- tests without a sum that could wrap
 
@@ -134,32 +134,32 @@ module _ (e : Entry) (xs : List ℕ) (i : ℕ) where
 -- ---- the walk's state
 
 module _ (x y : State) where
-  pub then-no : (x .walk .refusal ≡ 0 → ⊥) → andThen x y ≡ x
+  pub then-no : (x .progress .refusal ≡ 0 → ⊥) → andThen x y ≡ x
   unfolding andThen fine
   then-no h = if-ne _ 0 _ _ h
 
-  pub then-yes : x .walk .refusal ≡ 0 → andThen x y ≡ y
+  pub then-yes : x .progress .refusal ≡ 0 → andThen x y ≡ y
   unfolding andThen fine
   then-yes h = if-eq _ 0 _ _ h
 
 -- a head or a title leaves the count of fields
-count-fields : (n : ℕ) (h : Head) (w : Walk) → countLine n h w .fields ≡ w .fields
+count-fields : (n : ℕ) (h : Head) (w : Progress) → countLine n h w .fields ≡ w .fields
 unfolding countLine
-count-fields n h w = if-ind P _ (λ _. refl) (λ _. if-ind P _ (λ _. refl) (λ _. if-ind P (h .good) (λ _. refl) (λ _. refl)))
+count-fields n h w = if-ind P _ (λ _. refl) (λ _. if-ind P _ (λ _. refl) (λ _. if-ind P (h .typeable) (λ _. refl) (λ _. refl)))
   where
-    P : Walk → Type 0
+    P : Progress → Type 0
     P r = r .fields ≡ w .fields
 
-pub line-fields : (im : List ℕ) (n before p : ℕ) (h : Head) (w : Walk) → takeLine im n before p h w .fields ≡ w .fields
+pub line-fields : (im : List ℕ) (n before p : ℕ) (h : Head) (w : Progress) → takeLine im n before p h w .fields ≡ w .fields
 unfolding takeLine
 line-fields im n before p h w = if-ind P _ (λ _. if-ind P _ (λ _. count-fields n h w) (λ _. refl)) (λ _. refl)
   where
-    P : Walk → Type 0
+    P : Progress → Type 0
     P r = r .fields ≡ w .fields
 
-pub title-fields : (t : Title) (w : Walk) → takeTitle t w .fields ≡ w .fields
+pub title-fields : (t : Title) (w : Progress) → takeTitle t w .fields ≡ w .fields
 unfolding takeTitle
-title-fields t w = if-ind (λ (r : Walk). r .fields ≡ w .fields) _ (λ _. refl) (λ _. refl)
+title-fields t w = if-ind (λ (r : Progress). r .fields ≡ w .fields) _ (λ _. refl) (λ _. refl)
 
 pos-suc : (n : ℕ) → 0 < n → suc (n - 1) ≡ n
 pos-suc n h = omega arith
@@ -179,14 +179,14 @@ module _ (im : List ℕ) (sheet : ℕ) where
         let g : t ≡ takeComponent im sheet most p c s = f ∙ ap (λ (j : ℕ). takeComponent im sheet j p c s) z in
         ap (λ (n : ℕ). onComponents im sheet most (componentsFrom im n p) s) (sym (pos-suc left h)) ∙ simp (← e, ← g)
 
-    pub components-stop : (t .walk .refusal ≡ 0 → ⊥) → onComponents im sheet most (componentsFrom im left p) s ≡ t
+    pub components-stop : (t .progress .refusal ≡ 0 → ⊥) → onComponents im sheet most (componentsFrom im left p) s ≡ t
     components-stop n = components-one ∙ then-no _ _ n
 
-    pub components-last : t .walk .refusal ≡ 0 → c .last ≡ true → onComponents im sheet most (componentsFrom im left p) s ≡ t
+    pub components-last : t .progress .refusal ≡ 0 → c .last ≡ true → onComponents im sheet most (componentsFrom im left p) s ≡ t
     unfolding onComponents if_then_else_
     components-last y l = components-one ∙ then-yes _ _ y ∙ rw l
 
-    pub components-next : t .walk .refusal ≡ 0 → c .last ≡ false
+    pub components-next : t .progress .refusal ≡ 0 → c .last ≡ false
         → onComponents im sheet most (componentsFrom im left p) s ≡ onComponents im sheet most (componentsFrom im (left - 1) (c .next)) t
     unfolding if_then_else_
     components-next y l = components-one ∙ then-yes _ _ y ∙ rw l
@@ -198,16 +198,16 @@ module _ (im : List ℕ) (sheet : ℕ) where
   -- ---- a line
 
   module _
-      (most below n before p : ℕ) (w v : Walk) (xs : List ℕ) (h : Head) (e : h ≡ headAt im p) (f : v ≡ takeLine im n before p h w) where
+      (most below n before p : ℕ) (w v : Progress) (xs : List ℕ) (h : Head) (e : h ≡ headAt im p) (f : v ≡ takeLine im n before p h w) where
     abbrev line : State
     line = onLine im sheet most (onTable im sheet most below) n before p (seen w xs)
 
     headed : seen v xs ≡ onHead im sheet most n before p (seen w xs)
     unfolding onHead
     headed =
-        let g : v .fields ≡ w .fields = ap (λ (r : Walk). r .fields) f ∙ line-fields im n before p h w in
+        let g : v .fields ≡ w .fields = ap (λ (r : Progress). r .fields) f ∙ line-fields im n before p h w in
         ap (λ (j : ℕ). state v (listed xs j)) g
-        ∙ ap (λ (r : Walk). state r (listed xs (w .fields))) (f ∙ ap (λ (k : Head). takeLine im n before p k w) e)
+        ∙ ap (λ (r : Progress). state r (listed xs (w .fields))) (f ∙ ap (λ (k : Head). takeLine im n before p k w) e)
 
     pub line-stop : (v .refusal ≡ 0 → ⊥) → seen v xs ≡ line
     unfolding onLine
@@ -224,20 +224,20 @@ module _ (im : List ℕ) (sheet : ℕ) where
       unfolding componentsOf
       walked = g ∙ ap (λ (k : Head). onComponents im sheet most (componentsFrom im (length im + 1) (k .component)) (seen v xs)) e
 
-      pub line-bad : (q .walk .refusal ≡ 0 → ⊥) → q ≡ line
+      pub line-bad : (q .progress .refusal ≡ 0 → ⊥) → q ≡ line
       unfolding onBody
       line-bad b = sym (line-body y ∙ rw (← walked) (then-no q _ b))
 
-      line-submenu : q .walk .refusal ≡ 0 → line ≡ onSubmenu im sheet most (onTable im sheet most below) h q
+      line-submenu : q .progress .refusal ≡ 0 → line ≡ onSubmenu im sheet most (onTable im sheet most below) h q
       unfolding onBody
       line-submenu a = line-body y ∙ rw (← walked, ← e) (then-yes q _ a)
 
-      pub line-plain : q .walk .refusal ≡ 0 → h .submenu ≡ false → q ≡ line
+      pub line-plain : q .progress .refusal ≡ 0 → h .submenu ≡ false → q ≡ line
       unfolding onSubmenu if_then_else_
       line-plain a b = sym (line-submenu a ∙ rw b)
 
-      pub line-deep : (k : ℕ) (t r : Walk) (ys : List ℕ) → k ≡ most → q .walk .refusal ≡ 0 → h .submenu ≡ true
-          → seen t ys ≡ onTable im sheet k below (h .table) q → r ≡ behind t (q .walk .at) → seen r ys ≡ line
+      pub line-deep : (k : ℕ) (t r : Progress) (ys : List ℕ) → k ≡ most → q .progress .refusal ≡ 0 → h .submenu ≡ true
+          → seen t ys ≡ onTable im sheet k below (h .table) q → r ≡ pastLine t (q .progress .at) → seen r ys ≡ line
       unfolding onSubmenu if_then_else_
       line-deep k t r ys z a b u i =
           let d : seen t ys ≡ onTable im sheet most below (h .table) q = u ∙ ap (λ (j : ℕ). onTable im sheet j below (h .table) q) z in
@@ -264,14 +264,14 @@ module _ (im : List ℕ) (sheet : ℕ) where
         let g : t ≡ onLine im sheet most (onTable im sheet most below) n before p s = f ∙ ap (λ (j : ℕ). onLine im sheet j (onTable im sheet j below) n before p s) z in
         ap (λ (ps : List ℕ). onLines im sheet most (onTable im sheet most below) n before ps s) (lines-here n p h l e) ∙ simp (← g)
 
-    pub lines-stop : (t .walk .refusal ≡ 0 → ⊥) → rest ≡ t
+    pub lines-stop : (t .progress .refusal ≡ 0 → ⊥) → rest ≡ t
     lines-stop b = lines-one (headAt im p) refl ∙ then-no _ _ b
 
-    pub lines-last : (h : Head) → h ≡ headAt im p → t .walk .refusal ≡ 0 → h .last ≡ true → rest ≡ t
+    pub lines-last : (h : Head) → h ≡ headAt im p → t .progress .refusal ≡ 0 → h .last ≡ true → rest ≡ t
     unfolding onLines if_then_else_
     lines-last h e y a = lines-one h e ∙ then-yes _ _ y ∙ rw a
 
-    pub lines-next : (h : Head) → h ≡ headAt im p → t .walk .refusal ≡ 0 → h .last ≡ false
+    pub lines-next : (h : Head) → h ≡ headAt im p → t .progress .refusal ≡ 0 → h .last ≡ false
         → rest ≡ onLines im sheet most (onTable im sheet most below) (n + 1) p (linesFrom im (100 - (n + 1)) (h .next)) t
     unfolding if_then_else_
     lines-next h e y a = lines-one h e ∙ then-yes _ _ y ∙ rw a
@@ -281,13 +281,13 @@ module _ (im : List ℕ) (sheet : ℕ) where
   unfolding onLines linesFrom
   lines-done most below n before p s h = let e : 100 - n ≡ 0 = omega arith in rw e
 
-  module _ (most left at : ℕ) (w v : Walk) (xs : List ℕ) (t : Title) (e : t ≡ titleAt im at) (f : v ≡ takeTitle t w) where
+  module _ (most left at : ℕ) (w v : Progress) (xs : List ℕ) (t : Title) (e : t ≡ titleAt im at) (f : v ≡ takeTitle t w) where
     entered : seen v xs ≡ onTitle im sheet most at (seen w xs)
     unfolding onTitle
     entered =
-        let g : v .fields ≡ w .fields = ap (λ (r : Walk). r .fields) f ∙ title-fields t w in
+        let g : v .fields ≡ w .fields = ap (λ (r : Progress). r .fields) f ∙ title-fields t w in
         ap (λ (j : ℕ). state v (listed xs j)) g
-        ∙ ap (λ (r : Walk). state r (listed xs (w .fields))) (f ∙ ap (λ (k : Title). takeTitle k w) e)
+        ∙ ap (λ (r : Progress). state r (listed xs (w .fields))) (f ∙ ap (λ (k : Title). takeTitle k w) e)
 
     stop-by : (d : ℕ) → (v .refusal ≡ 0 → ⊥) → seen v xs ≡ onTable im sheet most d at (seen w xs)
     unfolding onTable
@@ -297,7 +297,7 @@ module _ (im : List ℕ) (sheet : ℕ) where
     pub table-stop : (v .refusal ≡ 0 → ⊥) → seen v xs ≡ onTable im sheet most left at (seen w xs)
     table-stop b = stop-by left b
 
-    pub table-deep : (r : Walk) → v .refusal ≡ 0 → left ≡ 0 → r ≡ refused v 8 → seen r xs ≡ onTable im sheet most left at (seen w xs)
+    pub table-deep : (r : Progress) → v .refusal ≡ 0 → left ≡ 0 → r ≡ refused v 8 → seen r xs ≡ onTable im sheet most left at (seen w xs)
     unfolding onTable
     table-deep r y z i = rw (z, i) (sym (rw (← entered) (then-yes (seen v xs) _ y)))
 

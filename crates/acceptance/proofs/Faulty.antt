@@ -28,21 +28,21 @@ module _ (im : List ℕ) (sheet : ℕ) where
   A = agree im
 
   -- a walk that is refused with a number: the definition says that number
-  walk-refused : (k : ℕ) → 0 < k → Prolog im → walked im sheet .walk .refusal ≡ k → Refused im sheet k
+  walk-refused : (k : ℕ) → 0 < k → Prolog im → walked im sheet .progress .refusal ≡ k → Refused im sheet k
   unfolding walked
   walk-refused k pos p z =
       let x = table-finds im A sheet mostFields deepestTable prologBytes 0 0 [] (omega arith) k pos z in
       let f = takes-fits sheet mostFields (omega arith) (x .takes) in
       let e : answer im sheet mostFields (x .structure) (x .count) (map entryOf (x .fields)) ≡ k = rw (zero-add (x .count)) at (x .answers) in
       let d = judged im sheet (x .count) (x .fields) (x .structure) (sits im deepestTable prologBytes (x .structure) (x .fields) (x .count) (x .comes)) in
-      Refused.walk (x .structure) (x .fields) (x .count) p (x .comes)
+      Refused.progress (x .structure) (x .fields) (x .count) p (x .comes)
       (record { few-lines = omega (arith, x .room); few-fields = omega (arith, f .few); inside = f .inside; apart = f .apart })
       (rw e at (judged-lowest d (omega arith)))
 
   refused-is : (k : ℕ) → 0 < k → refusalOf im sheet ≡ k → Refused im sheet k
   unfolding refusalOf checked
   refused-is k pos =
-      if-ind (λ (s : State). s .walk .refusal ≡ k → Refused im sheet k) (prologCode im =? 0)
+      if-ind (λ (s : State). s .progress .refusal ≡ k → Refused im sheet k) (prologCode im =? 0)
       (λ e z. walk-refused k pos (prolog-read im (eqb-true _ 0 e)) z)
       (λ e z. Refused.prolog (rw z at (judged-lowest (prolog-judged im) (omega arith))))
 
@@ -51,12 +51,12 @@ module _ (im : List ℕ) (sheet : ℕ) where
   unfolding refusalOf checked walked
   is-refused (Refused.prolog l) =
       let j = lowest-judged (prolog-judged im) l in
-      (ap (λ (s : State). s .walk .refusal) (if-ne (prologCode im) 0 _ _ (λ z. omega (arith, j .1))) ∙ j .0, omega (arith, j .0, j .1))
-  is-refused {k} (Refused.walk x fs lines p c kept l) =
+      (ap (λ (s : State). s .progress .refusal) (if-ne (prologCode im) 0 _ _ (λ z. omega (arith, j .1))) ∙ j .0, omega (arith, j .0, j .1))
+  is-refused {k} (Refused.progress x fs lines p c kept l) =
       let j = lowest-judged (judged im sheet lines fs x (sits im deepestTable prologBytes x fs lines c)) l in
       let t = fits-takes sheet mostFields [] {fs = fs} (omega (arith, kept .few-fields)) (kept .inside) (beside-none fs) (kept .apart) in
       let pos : 0 < k = omega (arith, j .0, j .1) in (
-        ap (λ (s : State). s .walk .refusal) (if-eq (prologCode im) 0 _ _ (prolog-is im p))
+        ap (λ (s : State). s .progress .refusal) (if-eq (prologCode im) 0 _ _ (prolog-is im p))
             ∙ table-falls im A sheet mostFields deepestTable prologBytes 0 0 [] x fs lines c t (omega (arith, kept .few-lines)) k pos (rw (zero-add lines) (j .0)),
         pos,
       )

@@ -15,7 +15,7 @@ use Rattle.laws.specs.Overwrite.{fit}
 use Rattle.laws.proofs.Cases.{by-test, if-ind, if-min}
 use Rattle.laws.proofs.Overwriting.{length-fit}
 use Rattle.field.specs.Formats.{formatOf}
-use Rattle.field.specs.Table.{profileOf}
+use Rattle.field.specs.Profiles.{profileOf}
 use Rattle.field.specs.Values.{bytesOf}
 use Rattle.field.specs.Sheet.{sizeOf}
 use Rattle.field.specs.declared.kind.Kind.{Kind}
@@ -83,7 +83,7 @@ pub record Standing (im : List ℕ) (f : Field) : Type 0 where
 -- a component whose fields are one has that field
 pub held-is : (c : read.Component) (f : Field) → heldBy c ≡ f ∷ [] → c .field ≡ f
 held-is c f =
-    if-ind (λ (l : List Field). l ≡ f ∷ [] → c .field ≡ f) (c .holds) (λ _ e. cc)
+    if-ind (λ (l : List Field). l ≡ f ∷ [] → c .field ≡ f) (c .fielded) (λ _ e. cc)
     (λ _ e. let z : _≡_ {A = ℕ} 0 1 = cc in absurd (omega arith))
 
 module _ (im : List ℕ) where

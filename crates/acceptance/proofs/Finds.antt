@@ -16,10 +16,10 @@ use Rattle.cmf.specs.Layouts.{Aligned}
 use Rattle.cmf.specs.Grammar.{Table, nextLine}
 use Rattle.cmf.proofs.Agreement.{Agree, HeadReads, ComponentReads}
 use Rattle.acceptance.specs.declared.index.Entry.{Entry}
-use Rattle.acceptance.specs.declared.state.Walk.{Walk}
+use Rattle.acceptance.specs.declared.progress.Progress.{Progress}
 use Rattle.acceptance.specs.Check.{State, with, fine, refused, takeTitle, onTitle, onHead, onComponent, onComponents, onSubmenu, onBody, onLine, onLines, onTable}
 use Rattle.acceptance.specs.Faults.{Structure, InComponents, InLine, InLines, InTableOver, TitleOnly, InTable}
-use Rattle.acceptance.proofs.Stood.{stood, put, put-put}
+use Rattle.acceptance.proofs.CameTo.{cameTo, put, put-put}
 use Rattle.acceptance.proofs.Takes.{Takes, takes-join}
 use Rattle.acceptance.proofs.Steps.{title-goes, title-read, Headed, head-goes, head-read, Taken, component-goes, component-read}
 use Rattle.acceptance.proofs.Parts.{Parts, components-go, components-read}
@@ -53,10 +53,10 @@ module _ (im : List ℕ) (A : Agree im) (sheet most : ℕ) where
   }
 
   -- a structure behind a stretch that stands
-  behind :
+  pastLine :
       {C D : Structure → List Field → ℕ → Type 0} (fs : List Field) (k lines : ℕ) (es : List Entry) (r : ℕ) → Takes sheet most es fs →
       (f : Fault C (lines + k) (put es fs) r) → D (f .structure) (fs ++ f .fields) (k + f .count) → Fault D lines es r
-  behind fs k lines es r t f d = record {
+  pastLine fs k lines es r t f d = record {
     structure = f .structure;
     fields = fs ++ f .fields;
     count = k + f .count;
@@ -79,19 +79,19 @@ module _ (im : List ℕ) (A : Agree im) (sheet most : ℕ) where
   abbrev Finds : ℕ → Type 0
   Finds k =
       (c at lines : ℕ) (es : List Entry) → c ≡ evenFrom at → at ≤ length im → length im + 1 < c + k → (r : ℕ) → 0 < r →
-      onComponents im sheet most (componentsFrom im k c) (stood at lines es) .walk .refusal ≡ r → PartsFault at lines es r
+      onComponents im sheet most (componentsFrom im k c) (cameTo at lines es) .progress .refusal ≡ r → PartsFault at lines es r
 
   one-finds : (k : ℕ) → Finds k → Finds (suc k)
   unfolding componentsFrom onComponents
   one-finds k rest c at lines es e i h r pos f = go (turn one _ r f)
     where
       one : State
-      one = onComponent im sheet most c (stood at lines es)
+      one = onComponent im sheet most c (cameTo at lines es)
 
       others : State
       others = onComponents im sheet most (if componentAt im c .last then [] else componentsFrom im k (componentAt im c .next)) one
 
-      on : fine one ≡ true → others .walk .refusal ≡ r → PartsFault at lines es r
+      on : fine one ≡ true → others .progress .refusal ≡ r → PartsFault at lines es r
       on b q = by-test (componentAt im c .last) last more
         where
           w : Taken im A sheet most c at es
@@ -109,7 +109,7 @@ module _ (im : List ℕ) (A : Agree im) (sheet most : ℕ) where
           aligned : Aligned im 0 at c
           aligned = A .even-aligned at c (record { stands = e; zeroed = w .padding }) (omega (arith, v .after, v .inside))
 
-          step : one ≡ stood end lines (put es fs)
+          step : one ≡ cameTo end lines (put es fs)
           step = component-goes im A sheet most c end at lines es fs (v .component) aligned (w .takes)
 
           last : componentAt im c .last ≡ true → PartsFault at lines es r
@@ -148,37 +148,37 @@ module _ (im : List ℕ) (A : Agree im) (sheet most : ℕ) where
     -- a submenu that is refused has a structure at fault
     abbrev pub SubFinds : Type 0
     SubFinds =
-        (t at lines : ℕ) (es : List Entry) → lines ≤ mostLines → (r : ℕ) → 0 < r → submenu t (stood at lines es) .walk .refusal ≡ r →
+        (t at lines : ℕ) (es : List Entry) → lines ≤ mostLines → (r : ℕ) → 0 < r → submenu t (cameTo at lines es) .progress .refusal ≡ r →
         Fault (Below t) lines es r
 
     plain-none :
         {X : Type 0} (p at lines : ℕ) (es : List Entry) (r : ℕ) → 0 < r → headAt im p .submenu ≡ false →
-        onSubmenu im sheet most submenu (headAt im p) (stood at lines es) .walk .refusal ≡ r → X
+        onSubmenu im sheet most submenu (headAt im p) (cameTo at lines es) .progress .refusal ≡ r → X
     unfolding onSubmenu
-    plain-none p at lines es r pos e f = absurd (omega (arith, ap (λ (s : State). s .walk .refusal) (sym (if-false _ (stood at lines es) e)) ∙ f))
+    plain-none p at lines es r pos e f = absurd (omega (arith, ap (λ (s : State). s .progress .refusal) (sym (if-false _ (cameTo at lines es) e)) ∙ f))
 
     submenu-finds :
-        (p : ℕ) (s : State) (r : ℕ) → headAt im p .submenu ≡ true → onSubmenu im sheet most submenu (headAt im p) s .walk .refusal ≡ r →
-        submenu (headAt im p .table) s .walk .refusal ≡ r
+        (p : ℕ) (s : State) (r : ℕ) → headAt im p .submenu ≡ true → onSubmenu im sheet most submenu (headAt im p) s .progress .refusal ≡ r →
+        submenu (headAt im p .table) s .progress .refusal ≡ r
     unfolding onSubmenu
-    submenu-finds p s r e f = sym (ap (λ (x : State). x .walk .refusal) (if-true _ _ e)) ∙ f
+    submenu-finds p s r e f = sym (ap (λ (x : State). x .progress .refusal) (if-true _ _ e)) ∙ f
 
     line-finds :
         SubFinds → (n before p at lines : ℕ) (es : List Entry) → lines ≤ mostLines → (r : ℕ) → 0 < r →
-        onLine im sheet most submenu n before p (stood at lines es) .walk .refusal ≡ r → Fault (InLine im Below n before at p) lines es r
+        onLine im sheet most submenu n before p (cameTo at lines es) .progress .refusal ≡ r → Fault (InLine im Below n before at p) lines es r
     unfolding onLine onBody componentsOf
     line-finds finds n before p at lines es few r pos f = go (turn S (onBody im sheet most submenu p S) r f)
       where
         S : State
-        S = onHead im sheet most n before p (stood at lines es)
+        S = onHead im sheet most n before p (cameTo at lines es)
 
         mid : ℕ
         mid = headAt im p .end
 
         C : State
-        C = onComponents im sheet most (componentsOf im p) (stood mid (lines + 1) es)
+        C = onComponents im sheet most (componentsOf im p) (cameTo mid (lines + 1) es)
 
-        on : fine S ≡ true → onBody im sheet most submenu p S .walk .refusal ≡ r → Fault (InLine im Below n before at p) lines es r
+        on : fine S ≡ true → onBody im sheet most submenu p S .progress .refusal ≡ r → Fault (InLine im Below n before at p) lines es r
         on b q = next (turn C (onSubmenu im sheet most submenu (headAt im p) C) r (rw step at q))
           where
             h : Headed im A sheet most n before p at lines
@@ -187,13 +187,13 @@ module _ (im : List ℕ) (A : Agree im) (sheet most : ℕ) where
             v : HeadReads im p
             v = A .head-reads p (h .refusal)
 
-            step : S ≡ stood mid (lines + 1) es
+            step : S ≡ cameTo mid (lines + 1) es
             step = head-goes im A sheet most n before p mid at lines es (h .head) (h .aligned) (h .few) (h .room)
 
             enough : length im + 1 < headAt im p .component + (length im + 1)
             enough = omega (arith, v .component, v .after)
 
-            part : C .walk .refusal ≡ r → Fault (InLine im Below n before at p) lines es r
+            part : C .progress .refusal ≡ r → Fault (InLine im Below n before at p) lines es r
             part e =
                 let x = components-find (length im + 1) (headAt im p .component) mid (lines + 1) es (v .component) (v .inside) enough r pos e in
                 record {
@@ -206,13 +206,13 @@ module _ (im : List ℕ) (A : Agree im) (sheet most : ℕ) where
                   answers = x .answers;
                 }
 
-            below : fine C ≡ true → onSubmenu im sheet most submenu (headAt im p) C .walk .refusal ≡ r → Fault (InLine im Below n before at p) lines es r
+            below : fine C ≡ true → onSubmenu im sheet most submenu (headAt im p) C .progress .refusal ≡ r → Fault (InLine im Below n before at p) lines es r
             below g e = by-test (headAt im p .submenu) deep plain
               where
                 c : Parts im A sheet most mid es
                 c = components-read im A sheet most (length im + 1) (headAt im p .component) mid (lines + 1) es (v .component) (v .inside) enough g
 
-                past : C ≡ stood (c .end) (lines + 1) (put es (c .fields))
+                past : C ≡ cameTo (c .end) (lines + 1) (put es (c .fields))
                 past = components-go im A sheet most (c .components) (length im + 1) (headAt im p .component) (lines + 1) es (v .component) enough (c .takes)
 
                 plain : headAt im p .submenu ≡ false → Fault (InLine im Below n before at p) lines es r
@@ -221,7 +221,7 @@ module _ (im : List ℕ) (A : Agree im) (sheet most : ℕ) where
                 deep : headAt im p .submenu ≡ true → Fault (InLine im Below n before at p) lines es r
                 deep y =
                     let x = finds (headAt im p .table) (c .end) (lines + 1) (put es (c .fields)) (omega (arith, h .room)) r pos (submenu-finds p _ r y (rw past at e)) in
-                    behind (c .fields) 1 lines es r (c .takes) x
+                    pastLine (c .fields) 1 lines es r (c .takes) x
                     (InLine.submenu mid (c .end) (h .few) (h .aligned) (h .head) (c .components) (v .submenu y)
                     (subst (λ (t : ℕ). Below t (x .structure) (x .fields) (x .count)) (v .table) (x .comes)))
 
@@ -238,19 +238,19 @@ module _ (im : List ℕ) (A : Agree im) (sheet most : ℕ) where
     abbrev LinesFind : ℕ → Type 0
     LinesFind j =
         (n before p at lines : ℕ) (es : List Entry) → n + j ≡ mostLinesOfTable + 1 → n ≤ mostLinesOfTable → lines ≤ mostLines → (r : ℕ) → 0 < r →
-        onLines im sheet most submenu n before (linesFrom im j p) (stood at lines es) .walk .refusal ≡ r → Fault (InLines im Sub Below n before at p) lines es r
+        onLines im sheet most submenu n before (linesFrom im j p) (cameTo at lines es) .progress .refusal ≡ r → Fault (InLines im Sub Below n before at p) lines es r
 
     one-line : SubGoes im A sheet most submenu Sub → SubReads im A sheet most submenu Sub → SubFinds → (j : ℕ) → LinesFind j → LinesFind (suc j)
     unfolding linesFrom onLines
     one-line goes reads finds j rest n before p at lines es e i few r pos f = go (turn one others r f)
       where
         one : State
-        one = onLine im sheet most submenu n before p (stood at lines es)
+        one = onLine im sheet most submenu n before p (cameTo at lines es)
 
         others : State
         others = onLines im sheet most submenu (n + 1) p (if headAt im p .last then [] else linesFrom im j (headAt im p .next)) one
 
-        this : one .walk .refusal ≡ r → Fault (InLines im Sub Below n before at p) lines es r
+        this : one .progress .refusal ≡ r → Fault (InLines im Sub Below n before at p) lines es r
         this q =
             let x = line-finds finds n before p at lines es few r pos q in
             record {
@@ -263,7 +263,7 @@ module _ (im : List ℕ) (A : Agree im) (sheet most : ℕ) where
               answers = x .answers;
             }
 
-        on : fine one ≡ true → others .walk .refusal ≡ r → Fault (InLines im Sub Below n before at p) lines es r
+        on : fine one ≡ true → others .progress .refusal ≡ r → Fault (InLines im Sub Below n before at p) lines es r
         on b q = by-test (headAt im p .last) last more
           where
             x : LineRead im A sheet most submenu Sub n before p at lines es
@@ -272,7 +272,7 @@ module _ (im : List ℕ) (A : Agree im) (sheet most : ℕ) where
             h : HeadReads im p
             h = A .head-reads p (x .refusal)
 
-            step : one ≡ stood (x .end) (lines + x .count) (put es (x .fields))
+            step : one ≡ cameTo (x .end) (lines + x .count) (put es (x .fields))
             step = line-goes im A sheet most submenu Sub goes (x .line) at lines es (x .few) (x .aligned) (x .takes) (x .room)
 
             last : headAt im p .last ≡ true → Fault (InLines im Sub Below n before at p) lines es r
@@ -283,7 +283,7 @@ module _ (im : List ℕ) (A : Agree im) (sheet most : ℕ) where
                 let g = rw (if-false [] (linesFrom im j (headAt im p .next)) l ∙ ap (linesFrom im j) (h .next), step) at q in
                 let y =
                 rest (n + 1) p (nextLine im p) (x .end) (lines + x .count) (put es (x .fields)) (omega arith) (omega (arith, x .few)) (x .room) r pos g in
-                behind (x .fields) (x .count) lines es r (x .takes) y (InLines.later (x .end) (x .few) (x .aligned) (x .line) (h .more l) (y .comes))
+                pastLine (x .fields) (x .count) lines es r (x .takes) y (InLines.later (x .end) (x .few) (x .aligned) (x .line) (h .more l) (y .comes))
 
         go : Turn one others r → Fault (InLines im Sub Below n before at p) lines es r
         go (Turn.stopped q) = this q
@@ -296,33 +296,33 @@ module _ (im : List ℕ) (A : Agree im) (sheet most : ℕ) where
   -- ---- tables
 
   -- a title that is refused is so by its own number
-  title-finds : (t : ℕ) (s : State) (r : ℕ) → 0 < r → onTitle im sheet most t s .walk .refusal ≡ r → titleAt im t .refusal ≡ r
+  title-finds : (t : ℕ) (s : State) (r : ℕ) → 0 < r → onTitle im sheet most t s .progress .refusal ≡ r → titleAt im t .refusal ≡ r
   unfolding onTitle takeTitle
   title-finds t s r pos =
-      if-ind (λ (w : Walk). w .refusal ≡ r → titleAt im t .refusal ≡ r) (titleAt im t .refusal =? 0) (λ _ e. absurd (omega arith)) (λ _ e. e)
+      if-ind (λ (w : Progress). w .refusal ≡ r → titleAt im t .refusal ≡ r) (titleAt im t .refusal =? 0) (λ _ e. absurd (omega arith)) (λ _ e. e)
 
   title-answers : (left t r : ℕ) → 0 < r → titleAt im t .refusal ≡ r → titleAnswer im left t ≡ r
   title-answers left t r pos e = if-ne (titleAt im t .refusal) 0 _ _ (λ z. omega arith) ∙ e
 
-  deep-finds : (t at lines : ℕ) (es : List Entry) → lines ≤ mostLines → (r : ℕ) → 0 < r → onTable im sheet most 0 t (stood at lines es) .walk .refusal ≡ r → Fault (TitleOnly t) lines es r
+  deep-finds : (t at lines : ℕ) (es : List Entry) → lines ≤ mostLines → (r : ℕ) → 0 < r → onTable im sheet most 0 t (cameTo at lines es) .progress .refusal ≡ r → Fault (TitleOnly t) lines es r
   unfolding onTable
   deep-finds t at lines es few r pos f = at-first (Structure.title 0 t) TitleOnly.first lines es r few (go (turn S _ r f))
     where
       S : State
-      S = onTitle im sheet most t (stood at lines es)
+      S = onTitle im sheet most t (cameTo at lines es)
 
-      go : Turn S (with S (refused (S .walk) 8)) r → titleAnswer im 0 t ≡ r
+      go : Turn S (with S (refused (S .progress) 8)) r → titleAnswer im 0 t ≡ r
       go (Turn.stopped q) = title-answers 0 t r pos (title-finds t _ r pos q)
-      go (Turn.went b q) = if-eq (titleAt im t .refusal) 0 _ _ (title-read im A sheet most t (stood at lines es) b) ∙ if-eq 0 0 _ _ refl ∙ q
+      go (Turn.went b q) = if-eq (titleAt im t .refusal) 0 _ _ (title-read im A sheet most t (cameTo at lines es) b) ∙ if-eq 0 0 _ _ refl ∙ q
 
   over-finds :
       (left : ℕ) → SubFinds (onTable im sheet most left) (Table im left) (InTable im left) → (t at lines : ℕ) (es : List Entry) → lines ≤ mostLines → (r : ℕ) → 0 < r →
-      onTable im sheet most (suc left) t (stood at lines es) .walk .refusal ≡ r → Fault (InTableOver im (Table im left) (InTable im left) (suc left) t) lines es r
+      onTable im sheet most (suc left) t (cameTo at lines es) .progress .refusal ≡ r → Fault (InTableOver im (Table im left) (InTable im left) (suc left) t) lines es r
   unfolding onTable linesOf
   over-finds left finds t at lines es few r pos f = go (turn S _ r f)
     where
       S : State
-      S = onTitle im sheet most t (stood at lines es)
+      S = onTitle im sheet most t (cameTo at lines es)
 
       end : ℕ
       end = titleAt im t .end
@@ -330,9 +330,9 @@ module _ (im : List ℕ) (A : Agree im) (sheet most : ℕ) where
       L : State → State
       L = onLines im sheet most (onTable im sheet most left) 0 0 (linesOf im t)
 
-      on : fine S ≡ true → L S .walk .refusal ≡ r → Fault (InTableOver im (Table im left) (InTable im left) (suc left) t) lines es r
+      on : fine S ≡ true → L S .progress .refusal ≡ r → Fault (InTableOver im (Table im left) (InTable im left) (suc left) t) lines es r
       on b q =
-          let z = title-read im A sheet most t (stood at lines es) b in
+          let z = title-read im A sheet most t (cameTo at lines es) b in
           let v = A .title-reads t z in
           let x =
           lines-find (onTable im sheet most left) (Table im left) (InTable im left) (table-goes im A sheet most left) (table-read im A sheet most left) finds (mostLinesOfTable + 1)

@@ -16,7 +16,7 @@ use Rattle.cmf.specs.Limits.{mostFields}
 use Rattle.cmf.specs.declared.title.Title.{Title}
 use Rattle.cmf.specs.declared.head.Head.{Head}
 use Rattle.acceptance.specs.declared.index.Entry.{Entry}
-use Rattle.acceptance.specs.declared.state.Walk.{Walk}
+use Rattle.acceptance.specs.declared.progress.Progress.{Progress}
 use Rattle.acceptance.specs.Check.{State, takeTitle, takeLine}
 use Rattle.acceptance.proofs.CodeSteps.{title-fields, line-fields}
 use Rattle.acceptance.specs.Index.{entry, capacity, entryAt, listed, withEntry, seen, numbersOf, indexOf}
@@ -49,11 +49,11 @@ unfolding indexOf numbersOf
 clean-first = record { zeros = λ i h. fresh (3 * mostFields) i }
 
 -- a title and a line's head are no field
-pub clean-title : (xs : List ℕ) (t : Title) (w : Walk) {v : Walk} → v ≡ takeTitle t w → Clean (w .fields) xs → Clean (v .fields) xs
-clean-title xs t w e c = rw (ap (λ (r : Walk). r .fields) e ∙ title-fields t w) c
+pub clean-title : (xs : List ℕ) (t : Title) (w : Progress) {v : Progress} → v ≡ takeTitle t w → Clean (w .fields) xs → Clean (v .fields) xs
+clean-title xs t w e c = rw (ap (λ (r : Progress). r .fields) e ∙ title-fields t w) c
 
-pub clean-head : (im xs : List ℕ) (n before p : ℕ) (h : Head) (w : Walk) {v : Walk} → v ≡ takeLine im n before p h w → Clean (w .fields) xs → Clean (v .fields) xs
-clean-head im xs n before p h w e c = rw (ap (λ (r : Walk). r .fields) e ∙ line-fields im n before p h w) c
+pub clean-head : (im xs : List ℕ) (n before p : ℕ) (h : Head) (w : Progress) {v : Progress} → v ≡ takeLine im n before p h w → Clean (w .fields) xs → Clean (v .fields) xs
+clean-head im xs n before p h w e c = rw (ap (λ (r : Progress). r .fields) e ∙ line-fields im n before p h w) c
 
 -- ---- numbers
 
@@ -116,10 +116,10 @@ module _ (xs : List ℕ) where
       ∙ sym (fit-at 0 (3 * mostFields) n i (omega arith) ∙ List·getD-eq-default n 0 {n = i} (omega (arith, listed-long k)))))
 
 -- and so, with the walk, it settles what the check found
-pub settled : (s : State) (w : Walk) (xs ys : List ℕ) → xs ≡ indexOf [] → length ys ≡ length xs → StaysClean 0 xs (w .fields) ys → seen w ys ≡ s
-    → (w ≡ s .walk) × (ys ≡ indexOf (s .fields))
+pub settled : (s : State) (w : Progress) (xs ys : List ℕ) → xs ≡ indexOf [] → length ys ≡ length xs → StaysClean 0 xs (w .fields) ys → seen w ys ≡ s
+    → (w ≡ s .progress) × (ys ≡ indexOf (s .fields))
 settled s w xs ys f l c e = (
-  ap (λ (t : State). t .walk) e,
+  ap (λ (t : State). t .progress) e,
   is-index ys (w .fields) (l ∙ ap length f ∙ length-index []) (c (rw f clean-first)) ∙ ap (λ (t : State). indexOf (t .fields)) e,
 )
 

@@ -16,10 +16,10 @@ use Rattle.cmf.specs.declared.title.Title.{Title}
 use Rattle.cmf.specs.declared.head.Head.{Head}
 use Rattle.cmf.proofs.Forming.{TitleView, title-view, HeadView, head-view, bad-password, good-password}
 use Rattle.acceptance.specs.declared.index.Entry.{Entry}
-use Rattle.acceptance.specs.declared.state.Walk.{Walk}
+use Rattle.acceptance.specs.declared.progress.Progress.{Progress}
 use Rattle.acceptance.specs.Check.{padded, agrees, linePlaced, countLine, takeLine, onHead}
-use Rattle.acceptance.specs.Faults.{Place, TitleFault, HeadFault, Lowest}
-use Rattle.acceptance.proofs.Stood.{stood, clash}
+use Rattle.acceptance.specs.Faults.{FirstOfParity, TitleFault, HeadFault, Lowest}
+use Rattle.acceptance.proofs.CameTo.{cameTo, clash}
 use Rattle.acceptance.proofs.Steps.{padded-is, padded-reads}
 
 -- ---- the lowest number that applies, or 0
@@ -54,16 +54,16 @@ not-below k j n = by-test (j <? k) (λ e. absurd (n (ltb-true j k e))) (λ e. lt
 -- ---- places
 
 -- the first odd place and the first even one, and back
-pub is-odd : {at p : ℕ} → Place 1 at p → p ≡ oddFrom at
+pub is-odd : {at p : ℕ} → FirstOfParity 1 at p → p ≡ oddFrom at
 is-odd o = omega (arith, o .agrees, o .after, o .first)
 
-pub odd-place : {at p : ℕ} → p ≡ oddFrom at → Place 1 at p
+pub odd-place : {at p : ℕ} → p ≡ oddFrom at → FirstOfParity 1 at p
 odd-place e = record { agrees = omega arith; after = omega arith; first = omega arith }
 
-pub is-even : {at p : ℕ} → Place 0 at p → p ≡ evenFrom at
+pub is-even : {at p : ℕ} → FirstOfParity 0 at p → p ≡ evenFrom at
 is-even o = omega (arith, o .agrees, o .after, o .first)
 
-pub even-place : {at p : ℕ} → p ≡ evenFrom at → Place 0 at p
+pub even-place : {at p : ℕ} → p ≡ evenFrom at → FirstOfParity 0 at p
 even-place e = record { agrees = omega arith; after = omega arith; first = omega arith }
 
 -- ---- a title
@@ -100,7 +100,7 @@ module _ (im : List ℕ) (lines n before at p : ℕ) where
   -- row 7 does not apply
   record Right : Type 0 where
     right : HeadWrong im p → ⊥
-    place : Place 1 at p
+    place : FirstOfParity 1 at p
     zeroed : at < p → byteAt im at ≡ 0
     first : n ≡ 0 → isFirst im p ≡ 0 → ⊥
     later : 0 < n → isFirst im p ≡ 1 → ⊥
@@ -170,7 +170,7 @@ module _ (im : List ℕ) (lines n before at p : ℕ) where
           previous = m .1 .1;
         }
 
-    right-by : (HeadWrong im p → ⊥) → (es : List Entry) → linePlaced im n before p h (stood at lines es .walk) ≡ true → Right
+    right-by : (HeadWrong im p → ⊥) → (es : List Entry) → linePlaced im n before p h (cameTo at lines es .progress) ≡ true → Right
     unfolding linePlaced
     right-by r es e = place-right r (and-l _ _ e) (and-l _ _ (and-r _ _ e)) (and-r _ _ (and-r _ _ e))
 
@@ -181,26 +181,26 @@ module _ (im : List ℕ) (lines n before at p : ℕ) where
         (λ e. let q = eqb-false at p e in HeadFault.padding (omega arith) (λ y. clash (padded-is im at p (λ _. y)) z))
 
     -- row 8, then row 9
-    counted : (HeadCut im p → ⊥) → Right → (es : List Entry) → Judged F (countLine n h (stood at lines es .walk) .refusal)
+    counted : (HeadCut im p → ⊥) → Right → (es : List Entry) → Judged F (countLine n h (cameTo at lines es .progress) .refusal)
     unfolding countLine
     counted u r es =
         if-ind J (mostLinesOfTable ≤? n) (λ q. at-fault 8 refl (omega arith) (HeadFault.hundredth (leb-true mostLinesOfTable n q)) eight)
         (λ a. if-ind J (mostLines ≤? lines) (λ q. at-fault 8 refl (omega arith) (HeadFault.many (leb-true mostLines lines q)) eight)
         (λ b. let few : Few = record { table = leb-false mostLinesOfTable n a; image = leb-false mostLines lines b } in
-        if-ind J (h .good)
+        if-ind J (h .typeable)
         (λ g. no-fault refl
         (λ j f. let l = head-least (j + 1) (λ _. u) (λ _. r) (λ _. few) (λ _. good-password im p end (r .right) g) j f in omega arith))
         (λ g. let w = bad-password im p end (r .right) g in
         at-fault 9 refl (omega arith) (HeadFault.password (w .0) (w .1)) (head-least 9 (λ _. u) (λ _. r) (λ _. few) (λ l. absurd (omega arith))))))
       where
-        J : Walk → Type 0
+        J : Progress → Type 0
         J w = Judged F (w .refusal)
 
         eight : (j : ℕ) → F j → 8 ≤ j
         eight = head-least 8 (λ _. u) (λ _. r) (λ l. absurd (omega arith)) (λ l. absurd (omega arith))
 
     -- row 7, by place, padding and marks
-    located : (HeadCut im p → ⊥) → (HeadWrong im p → ⊥) → (es : List Entry) → linePlaced im n before p h (stood at lines es .walk) ≡ false → F 7
+    located : (HeadCut im p → ⊥) → (HeadWrong im p → ⊥) → (es : List Entry) → linePlaced im n before p h (cameTo at lines es .progress) ≡ false → F 7
     unfolding linePlaced
     located u r es e =
         by-test (p =? oddFrom at)
@@ -212,23 +212,23 @@ module _ (im : List ℕ) (lines n before at p : ℕ) where
   head-seven : (HeadCut im p → ⊥) → (j : ℕ) → F j → 7 ≤ j
   head-seven u = head-least 7 (λ _. u) (λ l. absurd (omega arith)) (λ l. absurd (omega arith)) (λ l. absurd (omega arith))
 
-  head-by : {x : Head} (es : List Entry) → HeadView im p x → Judged F (takeLine im n before p x (stood at lines es .walk) .refusal)
+  head-by : {x : Head} (es : List Entry) → HeadView im p x → Judged F (takeLine im n before p x (cameTo at lines es .progress) .refusal)
   unfolding takeLine
   head-by es (HeadView.cut c) =
-      if-ind (λ (w : Walk). Judged F (w .refusal)) (6 =? 0) (λ q. let z = eqb-true 6 0 q in absurd (omega arith))
+      if-ind (λ (w : Progress). Judged F (w .refusal)) (6 =? 0) (λ q. let z = eqb-true 6 0 q in absurd (omega arith))
       (λ _. at-fault 6 refl (omega arith) (HeadFault.cut c)
       (head-least 6 (λ l. absurd (omega arith)) (λ l. absurd (omega arith)) (λ l. absurd (omega arith)) (λ l. absurd (omega arith))))
   head-by es (HeadView.wrong u x) =
-      if-ind (λ (w : Walk). Judged F (w .refusal)) (7 =? 0) (λ q. let z = eqb-true 7 0 q in absurd (omega arith))
+      if-ind (λ (w : Progress). Judged F (w .refusal)) (7 =? 0) (λ q. let z = eqb-true 7 0 q in absurd (omega arith))
       (λ _. at-fault 7 refl (omega arith) (HeadFault.wrong x) (head-seven u))
   head-by es (HeadView.whole u r end) =
-      if-ind (λ (w : Walk). Judged F (w .refusal)) (0 =? 0)
-      (λ _. if-ind (λ (w : Walk). Judged F (w .refusal)) (linePlaced im n before p (h end) (stood at lines es .walk))
+      if-ind (λ (w : Progress). Judged F (w .refusal)) (0 =? 0)
+      (λ _. if-ind (λ (w : Progress). Judged F (w .refusal)) (linePlaced im n before p (h end) (cameTo at lines es .progress))
       (λ e. counted end u (right-by end r es e) es)
       (λ e. at-fault 7 refl (omega arith) (located end u r es e) (head-seven u)))
       (λ q. absurd (eqb-false 0 0 q refl))
 
   -- the check's answer at a line's head
-  pub head-judged : (sheet most : ℕ) (es : List Entry) → Judged F (onHead im sheet most n before p (stood at lines es) .walk .refusal)
+  pub head-judged : (sheet most : ℕ) (es : List Entry) → Judged F (onHead im sheet most n before p (cameTo at lines es) .progress .refusal)
   unfolding onHead
   head-judged sheet most es = head-by es (head-view im p)

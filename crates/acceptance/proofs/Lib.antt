@@ -1,4 +1,4 @@
-pub mod Stood
+pub mod CameTo
 pub mod Takes
 pub mod Steps
 pub mod Parts

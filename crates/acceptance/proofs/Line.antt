@@ -15,8 +15,8 @@ use Rattle.cmf.specs.Layouts.{Aligned, Components}
 use Rattle.cmf.specs.Grammar.{Head, Line, isLast, hasSubmenu}
 use Rattle.cmf.proofs.Agreement.{Agree, HeadReads}
 use Rattle.acceptance.specs.declared.index.Entry.{Entry}
-use Rattle.acceptance.specs.Check.{State, with, fine, behind, onHead, onComponents, onSubmenu, onBody, onLine}
-use Rattle.acceptance.proofs.Stood.{stood, put, stood-put, Then, then-fine, then-is}
+use Rattle.acceptance.specs.Check.{State, with, fine, pastLine, onHead, onComponents, onSubmenu, onBody, onLine}
+use Rattle.acceptance.proofs.CameTo.{cameTo, put, stood-put, Then, then-fine, then-is}
 use Rattle.acceptance.proofs.Takes.{Takes, takes-join, takes-split}
 use Rattle.acceptance.proofs.Steps.{Headed, head-goes, head-read}
 use Rattle.acceptance.proofs.Parts.{Parts, components-go, components-read}
@@ -24,7 +24,7 @@ use Rattle.acceptance.proofs.Parts.{Parts, components-go, components-re
 -- the walk has come somewhere with so many lines and these fields
 pub record Came (s : State) (lines : ℕ) (es : List Entry) : Type 0 where
   pub end : ℕ
-  pub is : s ≡ stood end lines es
+  pub is : s ≡ cameTo end lines es
 
 -- ---- what a head's marks say
 
@@ -50,7 +50,7 @@ module _ (im : List ℕ) (A : Agree im) (sheet most : ℕ) where
     abbrev pub SubGoes : Type 0
     SubGoes =
         (t at lines : ℕ) (es : List Entry) (fs : List Field) (k : ℕ) → Sub t fs k → Takes sheet most es fs → lines + k ≤ mostLines →
-        Came (submenu t (stood at lines es)) (lines + k) (put es fs)
+        Came (submenu t (cameTo at lines es)) (lines + k) (put es fs)
 
     -- what is known of a submenu that the walk takes
     pub record Found (t lines : ℕ) (es : List Entry) : Type 0 where
@@ -62,22 +62,22 @@ module _ (im : List ℕ) (A : Agree im) (sheet most : ℕ) where
 
     -- a submenu that the walk takes is the grammar's
     abbrev pub SubReads : Type 0
-    SubReads = (t at lines : ℕ) (es : List Entry) → fine (submenu t (stood at lines es)) ≡ true → Found t lines es
+    SubReads = (t at lines : ℕ) (es : List Entry) → fine (submenu t (cameTo at lines es)) ≡ true → Found t lines es
 
     -- ---- one line
 
     -- a submenu, after which the walk goes on behind the line
-    submenu-goes : (p at lines : ℕ) (es es′ : List Entry) (k : ℕ) → headAt im p .submenu ≡ true → Came (submenu (headAt im p .table) (stood at lines es)) k es′ →
-        onSubmenu im sheet most submenu (headAt im p) (stood at lines es) ≡ stood at k es′
+    submenu-goes : (p at lines : ℕ) (es es′ : List Entry) (k : ℕ) → headAt im p .submenu ≡ true → Came (submenu (headAt im p .table) (cameTo at lines es)) k es′ →
+        onSubmenu im sheet most submenu (headAt im p) (cameTo at lines es) ≡ cameTo at k es′
     unfolding onSubmenu
     submenu-goes p at lines es es′ k e c =
-        if-true _ _ e ∙ ap (λ (s : State). with s (behind (s .walk) at)) (c .is)
-        ∙ ap (λ (x : ℕ). stood x k es′) (if-eq 0 0 at (c .end) refl)
+        if-true _ _ e ∙ ap (λ (s : State). with s (pastLine (s .progress) at)) (c .is)
+        ∙ ap (λ (x : ℕ). cameTo x k es′) (if-eq 0 0 at (c .end) refl)
 
     submenu-fine :
         (p : ℕ) (s : State) → headAt im p .submenu ≡ true → fine (onSubmenu im sheet most submenu (headAt im p) s) ≡ true → fine (submenu (headAt im p .table) s) ≡ true
     unfolding onSubmenu fine
-    submenu-fine p s e f = rw (if-true (with (submenu (headAt im p .table) s) (behind (submenu (headAt im p .table) s .walk) (s .walk .at))) s e) at f
+    submenu-fine p s e f = rw (if-true (with (submenu (headAt im p .table) s) (pastLine (submenu (headAt im p .table) s .progress) (s .progress .at))) s e) at f
 
     plain-goes : (p : ℕ) (s : State) → headAt im p .submenu ≡ false → onSubmenu im sheet most submenu (headAt im p) s ≡ s
     unfolding onSubmenu
@@ -87,7 +87,7 @@ module _ (im : List ℕ) (A : Agree im) (sheet most : ℕ) where
     pub body-goes :
         {n before p mid end : ℕ} {fs : List Field} (at lines : ℕ) (es : List Entry) → Head im n before p mid → Components im mid end fs →
         n < mostLinesOfTable → Aligned im 1 at p → lines < mostLines → Takes sheet most es fs →
-        onLine im sheet most submenu n before p (stood at lines es) ≡ onSubmenu im sheet most submenu (headAt im p) (stood end (lines + 1) (put es fs))
+        onLine im sheet most submenu n before p (cameTo at lines es) ≡ onSubmenu im sheet most submenu (headAt im p) (cameTo end (lines + 1) (put es fs))
     unfolding onLine onBody componentsOf
     body-goes {n} {before} {p} {mid} {end} {fs} at lines es h cs few a room t =
         let r = head-reads im A h in
@@ -101,7 +101,7 @@ module _ (im : List ℕ) (A : Agree im) (sheet most : ℕ) where
     pub line-goes :
         SubGoes → {n before p end k : ℕ} {fs : List Field} → Line im Sub n before p end fs k → (at lines : ℕ) (es : List Entry) →
         n < mostLinesOfTable → Aligned im 1 at p → Takes sheet most es fs → lines + k ≤ mostLines →
-        onLine im sheet most submenu n before p (stood at lines es) ≡ stood end (lines + k) (put es fs)
+        onLine im sheet most submenu n before p (cameTo at lines es) ≡ cameTo end (lines + k) (put es fs)
     line-goes go {p = p} (Line.plain mid h cs b) at lines es few a t l =
         body-goes at lines es h cs few a (omega arith) t ∙ plain-goes p _ (plain-marked im A (head-reads im A h) b)
     line-goes go {p = p} {end = end} (Line.submenu {fs = fs} {gs = gs} {k = k} mid h cs b s) at lines es few a t l =
@@ -126,13 +126,13 @@ module _ (im : List ℕ) (A : Agree im) (sheet most : ℕ) where
 
     -- a line that the walk takes is the grammar's
     pub line-read :
-        SubReads → (n before p at lines : ℕ) (es : List Entry) → fine (onLine im sheet most submenu n before p (stood at lines es)) ≡ true →
+        SubReads → (n before p at lines : ℕ) (es : List Entry) → fine (onLine im sheet most submenu n before p (cameTo at lines es)) ≡ true →
         LineRead n before p at lines es
     unfolding onLine onBody componentsOf
     line-read reads n before p at lines es f = by-test (headAt im p .submenu) deep plain
       where
         S : State
-        S = onHead im sheet most n before p (stood at lines es)
+        S = onHead im sheet most n before p (cameTo at lines es)
 
         t : Then S (onBody im sheet most submenu p S)
         t = then-fine S _ f
@@ -146,14 +146,14 @@ module _ (im : List ℕ) (A : Agree im) (sheet most : ℕ) where
         mid : ℕ
         mid = headAt im p .end
 
-        step : S ≡ stood mid (lines + 1) es
+        step : S ≡ cameTo mid (lines + 1) es
         step = head-goes im A sheet most n before p mid at lines es (h .head) (h .aligned) (h .few) (h .room)
 
-        body : fine (onBody im sheet most submenu p (stood mid (lines + 1) es)) ≡ true
+        body : fine (onBody im sheet most submenu p (cameTo mid (lines + 1) es)) ≡ true
         body = rw step at (t .after)
 
         C : State
-        C = onComponents im sheet most (componentsOf im p) (stood mid (lines + 1) es)
+        C = onComponents im sheet most (componentsOf im p) (cameTo mid (lines + 1) es)
 
         u : Then C (onSubmenu im sheet most submenu (headAt im p) C)
         u = then-fine C _ body
@@ -164,10 +164,10 @@ module _ (im : List ℕ) (A : Agree im) (sheet most : ℕ) where
         c : Parts im A sheet most mid es
         c = components-read im A sheet most (length im + 1) (headAt im p .component) mid (lines + 1) es (r .component) (r .inside) enough (u .before)
 
-        on : C ≡ stood (c .end) (lines + 1) (put es (c .fields))
+        on : C ≡ cameTo (c .end) (lines + 1) (put es (c .fields))
         on = components-go im A sheet most (c .components) (length im + 1) (headAt im p .component) (lines + 1) es (r .component) enough (c .takes)
 
-        rest : fine (onSubmenu im sheet most submenu (headAt im p) (stood (c .end) (lines + 1) (put es (c .fields)))) ≡ true
+        rest : fine (onSubmenu im sheet most submenu (headAt im p) (cameTo (c .end) (lines + 1) (put es (c .fields)))) ≡ true
         rest = rw on at (u .after)
 
         plain : headAt im p .submenu ≡ false → LineRead n before p at lines es

@@ -19,8 +19,8 @@ use Rattle.cmf.specs.declared.component.Component.{Component}
 use Rattle.cmf.proofs.Forming.{room-gt}
 use Rattle.cmf.proofs.Rows.{Settings, View, view, same-field, no-field}
 use Rattle.acceptance.specs.Check.{State, padded, entryOf, inSheet, apart, apartFrom, takeField, takeComponent, onComponent}
-use Rattle.acceptance.specs.Faults.{Place, Shares, ComponentFault}
-use Rattle.acceptance.proofs.Stood.{stood, clash}
+use Rattle.acceptance.specs.Faults.{FirstOfParity, Shares, ComponentFault}
+use Rattle.acceptance.proofs.CameTo.{cameTo, clash}
 use Rattle.acceptance.proofs.Steps.{padded-is, padded-reads}
 use Rattle.acceptance.proofs.Takes.{sheet-reads, apart-reads}
 use Rattle.acceptance.proofs.Judging.{Judged, at-fault, no-fault, not-below}
@@ -113,7 +113,7 @@ module _ (im : List ℕ) (sheet : ℕ) (fs : List Field) (at p : ℕ) where
       part-least 7 (λ _. u) (λ l. absurd (omega arith)) (λ l. absurd (omega arith)) (λ l. absurd (omega arith)) (λ l. absurd (omega arith)) (λ l. absurd (omega arith))
 
   -- a byte skipped that is not zero
-  not-padded : Place 0 at p → padded im at p ≡ false → F 7
+  not-padded : FirstOfParity 0 at p → padded im at p ≡ false → F 7
   not-padded o z =
       by-test (at =? p)
       (λ e. clash (padded-is im at p (λ x. absurd (x (eqb-true at p e)))) z)
@@ -128,10 +128,10 @@ module _ (im : List ℕ) (sheet : ℕ) (fs : List Field) (at p : ℕ) where
 
   module _ (lines : ℕ) where
     abbrev s : State
-    s = stood at lines (map entryOf fs)
+    s = cameTo at lines (map entryOf fs)
 
     abbrev J : State → Type 0
-    J x = Judged F (x .walk .refusal)
+    J x = Judged F (x .progress .refusal)
 
     -- a field that is all there: rows 8 to 11
     field-by :
@@ -164,7 +164,7 @@ module _ (im : List ℕ) (sheet : ℕ) (fs : List Field) (at p : ℕ) where
         same : {g : Field} → FieldIs im p g → g ≡ f
         same h = same-field im p (h .form) form
 
-    part-by : {x : Component} → Place 0 at p → View im p x → J (takeComponent im sheet mostFields p x s)
+    part-by : {x : Component} → FirstOfParity 0 at p → View im p x → J (takeComponent im sheet mostFields p x s)
     unfolding takeComponent
     part-by {x} o (View.cut c e) =
         if-ind J (x .refusal =? 6)
@@ -174,14 +174,14 @@ module _ (im : List ℕ) (sheet : ℕ) (fs : List Field) (at p : ℕ) where
     part-by {x} o (View.wrong u w e h) =
         if-ind J (x .refusal =? 6) (λ q. absurd (omega (arith, eqb-true (x .refusal) 6 q)))
         (λ _. if-ind J (padded im at p)
-        (λ _. if-ind J (x .holds) (λ y. clash y h)
+        (λ _. if-ind J (x .fielded) (λ y. clash y h)
         (λ _. if-ind J (x .refusal =? 0) (λ q. absurd (omega (arith, eqb-true (x .refusal) 0 q)))
         (λ _. at-fault 7 e (omega arith) (ComponentFault.wrong w) (seven u))))
         (λ z. at-fault 7 refl (omega arith) (ComponentFault.wrong w) (seven u)))
     part-by {x} o (View.plain u r form e h) =
         if-ind J (x .refusal =? 6) (λ q. absurd (omega (arith, eqb-true (x .refusal) 6 q)))
         (λ _. if-ind J (padded im at p)
-        (λ z. if-ind J (x .holds) (λ y. clash y h)
+        (λ z. if-ind J (x .fielded) (λ y. clash y h)
         (λ _. if-ind J (x .refusal =? 0)
         (λ _. no-fault refl (λ j q. let l = part-least (j + 1) (λ _. u) (λ _. right-by r z) (λ _ f y. absurd (no-field im p form (y .form)))
         (λ _ f y. absurd (no-field im p form (y .form))) (λ _ f y. absurd (no-field im p form (y .form))) (λ _ f y. absurd (no-field im p form (y .form))) j q in omega arith))
@@ -193,12 +193,12 @@ module _ (im : List ℕ) (sheet : ℕ) (fs : List Field) (at p : ℕ) where
     part-by {x} o (View.field u r form f h st) =
         if-ind J (x .refusal =? 6) (λ q. absurd (not-six st (eqb-true (x .refusal) 6 q)))
         (λ _. if-ind J (padded im at p)
-        (λ z. if-ind J (x .holds)
+        (λ z. if-ind J (x .fielded)
         (λ _. field-by x u (record { right = r; zeroed = λ l. padded-reads im at p z (λ e. omega arith) }) form f st)
         (λ y. clash h y))
         (λ z. at-fault 7 refl (omega arith) (not-padded o z) (seven u)))
 
     -- the check's answer at a component
-    pub part-judged : Place 0 at p → J (onComponent im sheet mostFields p s)
+    pub part-judged : FirstOfParity 0 at p → J (onComponent im sheet mostFields p s)
     unfolding onComponent
     part-judged o = part-by o (view im p)

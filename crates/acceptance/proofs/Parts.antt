@@ -15,7 +15,7 @@ use Rattle.cmf.specs.Layouts.{Aligned, Component, Components, lastBit}
 use Rattle.cmf.proofs.Agreement.{Agree, ComponentReads}
 use Rattle.acceptance.specs.declared.index.Entry.{Entry}
 use Rattle.acceptance.specs.Check.{State, fine, onComponent, onComponents}
-use Rattle.acceptance.proofs.Stood.{stood, put, put-put, Then, then-fine, then-is}
+use Rattle.acceptance.proofs.CameTo.{cameTo, put, put-put, Then, then-fine, then-is}
 use Rattle.acceptance.proofs.Takes.{Takes, takes-join, takes-split}
 use Rattle.acceptance.proofs.Steps.{Taken, component-goes, component-read}
 
@@ -60,8 +60,8 @@ module _ (im : List ℕ) (A : Agree im) where
 module _ (im : List ℕ) (A : Agree im) (sheet most : ℕ) where
   -- one component, and then the others
   pub walk-on :
-      (c : ℕ) (cs : List ℕ) (s : State) (at lines : ℕ) (es : List Entry) → onComponent im sheet most c s ≡ stood at lines es →
-      onComponents im sheet most (c ∷ cs) s ≡ onComponents im sheet most cs (stood at lines es)
+      (c : ℕ) (cs : List ℕ) (s : State) (at lines : ℕ) (es : List Entry) → onComponent im sheet most c s ≡ cameTo at lines es →
+      onComponents im sheet most (c ∷ cs) s ≡ onComponents im sheet most cs (cameTo at lines es)
   unfolding onComponents
   walk-on c cs s at lines es e = then-is (onComponents im sheet most cs) (onComponent im sheet most c s) at lines es e
 
@@ -73,20 +73,20 @@ module _ (im : List ℕ) (A : Agree im) (sheet most : ℕ) where
   pub components-go :
       {at end : ℕ} {fs : List Field} → Components im at end fs →
       (k c lines : ℕ) (es : List Entry) → c ≡ evenFrom at → length im + 1 < c + k → Takes sheet most es fs →
-      onComponents im sheet most (componentsFrom im k c) (stood at lines es) ≡ stood end lines (put es fs)
+      onComponents im sheet most (componentsFrom im k c) (cameTo at lines es) ≡ cameTo end lines (put es fs)
   components-go (Components.last p a x l) zero c lines es e h t = no-turns im A a x c e h
   components-go {at} {end} {fs} (Components.last p a x l) (suc k) c lines es e h t =
-      ap (λ (cs : List ℕ). onComponents im sheet most cs (stood at lines es)) (rw (turn im A a x k c e h .here) (places-last im k p (last-true im A x l)))
-      ∙ walk-on p [] (stood at lines es) end lines (put es fs) (component-goes im A sheet most p end at lines es fs x a t)
-      ∙ walk-done (stood end lines (put es fs))
+      ap (λ (cs : List ℕ). onComponents im sheet most cs (cameTo at lines es)) (rw (turn im A a x k c e h .here) (places-last im k p (last-true im A x l)))
+      ∙ walk-on p [] (cameTo at lines es) end lines (put es fs) (component-goes im A sheet most p end at lines es fs x a t)
+      ∙ walk-done (cameTo end lines (put es fs))
   components-go (Components.more p mid a x l r) zero c lines es e h t = no-turns im A a x c e h
   components-go {at} {end} (Components.more {fs = fs} {gs = gs} p mid a x l r) (suc k) c lines es e h t =
       let n = turn im A a x k c e h in
       let u = takes-split sheet most fs {gs = gs} t in
-      ap (λ (cs : List ℕ). onComponents im sheet most cs (stood at lines es)) (rw (n .here) (places-more im k p (last-false im A x l)))
-      ∙ walk-on p _ (stood at lines es) mid lines (put es fs) (component-goes im A sheet most p mid at lines es fs x a (u .0))
+      ap (λ (cs : List ℕ). onComponents im sheet most cs (cameTo at lines es)) (rw (n .here) (places-more im k p (last-false im A x l)))
+      ∙ walk-on p _ (cameTo at lines es) mid lines (put es fs) (component-goes im A sheet most p mid at lines es fs x a (u .0))
       ∙ components-go r k (componentAt im p .next) lines (put es fs) (n .next) (n .enough) (u .1)
-      ∙ ap (stood end lines) (put-put es fs gs)
+      ∙ ap (cameTo end lines) (put-put es fs gs)
 
   -- what is known of components that the walk takes
   pub record Parts (at : ℕ) (es : List Entry) : Type 0 where
@@ -98,7 +98,7 @@ module _ (im : List ℕ) (A : Agree im) (sheet most : ℕ) where
   abbrev Reads : ℕ → Type 0
   Reads k =
       (c at lines : ℕ) (es : List Entry) → c ≡ evenFrom at → at ≤ length im → length im + 1 < c + k →
-      fine (onComponents im sheet most (componentsFrom im k c) (stood at lines es)) ≡ true → Parts at es
+      fine (onComponents im sheet most (componentsFrom im k c) (cameTo at lines es)) ≡ true → Parts at es
 
   -- one turn of it
   one-read : (k : ℕ) → Reads k → Reads (suc k)
@@ -106,7 +106,7 @@ module _ (im : List ℕ) (A : Agree im) (sheet most : ℕ) where
   one-read k rest c at lines es e i h f = by-test (componentAt im c .last) last more
     where
       one : State
-      one = onComponent im sheet most c (stood at lines es)
+      one = onComponent im sheet most c (cameTo at lines es)
 
       t : Then one (onComponents im sheet most (if componentAt im c .last then [] else componentsFrom im k (componentAt im c .next)) one)
       t = then-fine one _ f
@@ -126,7 +126,7 @@ module _ (im : List ℕ) (A : Agree im) (sheet most : ℕ) where
       aligned : Aligned im 0 at c
       aligned = A .even-aligned at c (record { stands = e; zeroed = w .padding }) (omega (arith, r .after, r .inside))
 
-      step : one ≡ stood end lines (put es fs)
+      step : one ≡ cameTo end lines (put es fs)
       step = component-goes im A sheet most c end at lines es fs (r .component) aligned (w .takes)
 
       last : componentAt im c .last ≡ true → Parts at es

@@ -12,7 +12,7 @@ use Rattle.laws.proofs.Cases.{if-ind, by-test, and-i, and-l, and-r}
 use Rattle.cmf.specs.Limits.{longestImage, prologBytes}
 use Rattle.acceptance.specs.Check.{prologCode}
 use Rattle.acceptance.specs.Faults.{PrologFault}
-use Rattle.acceptance.proofs.Stood.{clash}
+use Rattle.acceptance.proofs.CameTo.{clash}
 use Rattle.acceptance.proofs.Judging.{Judged, at-fault, no-fault, not-below}
 
 module _ (im : List ℕ) where

@@ -50,4 +50,4 @@ applies-range im sheet fs lines (Structure.component at p) k f = part-range f
 
 pub refused-range : {im : List ℕ} {sheet k : ℕ} → Refused im sheet k → (2 ≤ k) × (k ≤ 11)
 refused-range {im} {sheet} {k} (Refused.prolog l) = prolog-range (l .applies)
-refused-range {im} {sheet} {k} (Refused.walk x fs lines p c kept l) = applies-range im sheet fs lines x k (l .applies)
+refused-range {im} {sheet} {k} (Refused.progress x fs lines p c kept l) = applies-range im sheet fs lines x k (l .applies)

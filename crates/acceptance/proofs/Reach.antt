@@ -15,7 +15,7 @@ use Rattle.cmf.specs.Places.{linesFrom, linesOf, componentsFrom, componentsOf, 
 use Rattle.cmf.specs.Layouts.{Component, Components}
 use Rattle.cmf.specs.Grammar.{Head, Line, Lines, Table, WellFormed}
 use Rattle.cmf.proofs.Agreement.{Agree}
-use Rattle.acceptance.proofs.Stood.{clash}
+use Rattle.acceptance.proofs.CameTo.{clash}
 use Rattle.acceptance.proofs.Parts.{places-last, places-more, last-true, last-false, no-turns, turn}
 use Rattle.acceptance.proofs.Line.{head-reads, last-marked, more-marked, plain-marked}
 use Rattle.acceptance.proofs.Tables.{lines-last, lines-more, line-reads, first-line}
@@ -30,7 +30,7 @@ some-line im t = omega arith
 -- a component: it reads without fault, and its field is one of the image's
 pub record PartIn (im : List ℕ) (fields : List Field) (c : ℕ) : Type 0 where
   pub refusal : componentAt im c .refusal ≡ 0
-  pub known : componentAt im c .holds ≡ true → List·Memᴰ (componentAt im c .field) fields
+  pub known : componentAt im c .fielded ≡ true → List·Memᴰ (componentAt im c .field) fields
 
 -- a line's components, in order: the last of the list has the mark of the last, and no other has it
 pub data Chain (im : List ℕ) (fields : List Field) : List ℕ → Type 0 where
@@ -42,12 +42,12 @@ pub record Reached (im : List ℕ) (fields : List Field) (left t : ℕ) : Type 0
   pub own : List Field
   pub count : ℕ
   pub table : Table im left t own count
-  pub among : (f : Field) → List·Memᴰ f own → List·Memᴰ f fields
+  pub isIn : (f : Field) → List·Memᴰ f own → List·Memᴰ f fields
 
 -- a line: head and components read without fault, and its submenu, if any, is a table reached with a level less
 pub record LineIn (im : List ℕ) (fields : List Field) (left p : ℕ) : Type 0 where
   pub refusal : headAt im p .refusal ≡ 0
-  pub good : headAt im p .good ≡ true
+  pub good : headAt im p .typeable ≡ true
   pub parts : Chain im fields (componentsOf im p)
   pub below : headAt im p .submenu ≡ true → Reached im fields left (headAt im p .table)
 
@@ -135,7 +135,7 @@ module _ (im : List ℕ) (A : Agree im) (fields : List Field) where
   line-in {left} (Line.plain mid h cs b) a = body-in left h cs a (λ e. clash e (plain-marked im A (head-reads im A h) b))
   line-in {left} {p = p} (Line.submenu {fs = fs} {gs = gs} {k = k} mid h cs b s) a =
       body-in left h cs (among-left fs gs a)
-      (λ e. record { own = gs; count = k; table = subst (λ (x : ℕ). Table im left x gs k) (sym (head-reads im A h .table)) s; among = among-right fs gs a })
+      (λ e. record { own = gs; count = k; table = subst (λ (x : ℕ). Table im left x gs k) (sym (head-reads im A h .table)) s; isIn = among-right fs gs a })
 
   -- each line of the list is a line of the grammar
   lines-in :
@@ -182,7 +182,7 @@ module _ (im : List ℕ) (A : Agree im) (fields : List Field) where
   unfolding Table lineCount linesOf lineAt
   line-reached left t k r h =
       let e = first-line im A (r .table) in
-      rw e (lines-in (r .table .lines) (mostLinesOfTable + 1) refl (r .among) k (rw e at h))
+      rw e (lines-in (r .table .lines) (mostLinesOfTable + 1) refl (r .isIn) k (rw e at h))
 
 -- the levels end at the eighth
 pub no-levels : {X : Type 0} (im : List ℕ) (fields : List Field) (t : ℕ) → Reached im fields 0 t → X
@@ -191,4 +191,4 @@ no-levels im fields t r = absurd (r .table)
 
 -- the top table is reached
 pub top-reached : (im : List ℕ) (sheet : ℕ) (w : WellFormed im sheet) → Reached im (w .fields) deepestTable prologBytes
-top-reached im sheet w = record { own = w .fields; count = w .lines; table = w .table; among = λ f m. m }
+top-reached im sheet w = record { own = w .fields; count = w .lines; table = w .table; isIn = λ f m. m }

@@ -18,9 +18,9 @@ use Rattle.cmf.specs.Places.{heldBy}
 use Rattle.cmf.proofs.Agreement.{Agree, HeadReads, PlaceIs}
 use Rattle.cmf.specs.declared.component.Component as read
 use Rattle.acceptance.specs.declared.index.Entry.{Entry}
-use Rattle.acceptance.specs.declared.state.Walk.{Walk}
-use Rattle.acceptance.specs.Check.{State, state, with, fine, refused, passed, padded, takeTitle, agrees, linePlaced, countLine, takeLine, entryOf, inSheet, apartFrom, takeField, takeComponent, onTitle, onHead, onComponent}
-use Rattle.acceptance.proofs.Stood.{stood, put, code-refused, is-refused}
+use Rattle.acceptance.specs.declared.progress.Progress.{Progress}
+use Rattle.acceptance.specs.Check.{State, state, with, fine, refused, readTo, padded, takeTitle, agrees, linePlaced, countLine, takeLine, entryOf, inSheet, apartFrom, takeField, takeComponent, onTitle, onHead, onComponent}
+use Rattle.acceptance.proofs.CameTo.{cameTo, put, code-refused, is-refused}
 use Rattle.acceptance.proofs.Takes.{Takes}
 
 -- a place that follows another at once or behind one zero byte
@@ -37,14 +37,14 @@ padded-reads im at p =
 module _ (im : List ℕ) (A : Agree im) (sheet most : ℕ) where
   -- ---- a title: taken where it reads without fault, and nowhere else
 
-  pub title-goes : (t at lines : ℕ) (es : List Entry) → titleAt im t .refusal ≡ 0 → onTitle im sheet most t (stood at lines es) ≡ stood (titleAt im t .end) lines es
+  pub title-goes : (t at lines : ℕ) (es : List Entry) → titleAt im t .refusal ≡ 0 → onTitle im sheet most t (cameTo at lines es) ≡ cameTo (titleAt im t .end) lines es
   unfolding onTitle takeTitle
-  title-goes t at lines es z = ap (with (stood at lines es)) (if-eq (titleAt im t .refusal) 0 _ _ z)
+  title-goes t at lines es z = ap (with (cameTo at lines es)) (if-eq (titleAt im t .refusal) 0 _ _ z)
 
   pub title-read : (t : ℕ) (s : State) → fine (onTitle im sheet most t s) ≡ true → titleAt im t .refusal ≡ 0
   unfolding onTitle takeTitle
   title-read t s =
-      if-ind (λ (w : Walk). fine (with s w) ≡ true → titleAt im t .refusal ≡ 0) (titleAt im t .refusal =? 0)
+      if-ind (λ (w : Progress). fine (with s w) ≡ true → titleAt im t .refusal ≡ 0) (titleAt im t .refusal =? 0)
       (λ e h. eqb-true _ 0 e) (λ e h. code-refused s (titleAt im t .refusal) e h)
 
   -- ---- a line's head
@@ -68,25 +68,25 @@ module _ (im : List ℕ) (A : Agree im) (sheet most : ℕ) where
   -- a head of the grammar is taken
   pub head-goes :
       (n before p end at lines : ℕ) (es : List Entry) → Head im n before p end → Aligned im 1 at p → n < mostLinesOfTable → lines < mostLines →
-      onHead im sheet most n before p (stood at lines es) ≡ stood end (lines + 1) es
+      onHead im sheet most n before p (cameTo at lines es) ≡ cameTo end (lines + 1) es
   unfolding onHead takeLine linePlaced countLine
   head-goes n before p end at lines es h a few room =
       let i = A .head-is h in
       let q = A .odd-is a in
-      ap (with (stood at lines es))
+      ap (with (cameTo at lines es))
       (if-eq (headAt im p .refusal) 0 _ _ (i .refusal)
       ∙ if-true _ _ (and-i (eq-eqb p (oddFrom at) (q .stands)) (and-i (padded-is im at p (q .zeroed)) (agrees-is n before p end h)))
       ∙ if-gt mostLinesOfTable n _ _ few ∙ if-gt mostLines lines _ _ room ∙ if-true _ _ (i .good))
-      ∙ ap (λ (x : ℕ). stood x (lines + 1) es) (i .ends)
+      ∙ ap (λ (x : ℕ). cameTo x (lines + 1) es) (i .ends)
 
   module _ (n before p at lines : ℕ) (es : List Entry) where
     abbrev s : State
-    s = stood at lines es
+    s = cameTo at lines es
 
-    abbrev P : Walk → Type 0
+    abbrev P : Progress → Type 0
     P w = fine (with s w) ≡ true → Headed n before p at lines
 
-    agrees-read : headAt im p .good ≡ true → HeadReads im p → agrees n before p (headAt im p) ≡ true → Head im n before p (headAt im p .end)
+    agrees-read : headAt im p .typeable ≡ true → HeadReads im p → agrees n before p (headAt im p) ≡ true → Head im n before p (headAt im p .end)
     unfolding agrees
     agrees-read g r =
         if-ind (λ (b : Bool). b ≡ true → Head im n before p (headAt im p .end)) (n =? 0)
@@ -96,14 +96,14 @@ module _ (im : List ℕ) (A : Agree im) (sheet most : ℕ) where
         (λ _ f. absurd (false≢true f))
         (λ f b. r .head g n before (λ o. absurd (z o)) (λ l. f) (λ l. eqb-true _ p b)))
 
-    placed-read : headAt im p .refusal ≡ 0 → linePlaced im n before p (headAt im p) (s .walk) ≡ true → P (countLine n (headAt im p) (s .walk))
+    placed-read : headAt im p .refusal ≡ 0 → linePlaced im n before p (headAt im p) (s .progress) ≡ true → P (countLine n (headAt im p) (s .progress))
     unfolding linePlaced countLine
     placed-read z e =
         let r = A .head-reads p z in
         let q : PlaceIs im at p (oddFrom at) = record { stands = eqb-true p (oddFrom at) (and-l _ _ e); zeroed = padded-reads im at p (and-l _ _ (and-r _ _ e)) } in
         if-ind P (mostLinesOfTable ≤? n) (λ _ h. is-refused s 7 h)
         (λ f. if-ind P (mostLines ≤? lines) (λ _ h. is-refused s 7 h)
-        (λ l. if-ind P (headAt im p .good)
+        (λ l. if-ind P (headAt im p .typeable)
         (λ g h. record {
           refusal = z;
           head = agrees-read g r (and-r _ _ (and-r _ _ e));
@@ -118,7 +118,7 @@ module _ (im : List ℕ) (A : Agree im) (sheet most : ℕ) where
     unfolding onHead takeLine
     head-read =
         if-ind P (headAt im p .refusal =? 0)
-        (λ e. if-ind P (linePlaced im n before p (headAt im p) (s .walk)) (λ f. placed-read (eqb-true _ 0 e) f) (λ _ h. is-refused s 6 h))
+        (λ e. if-ind P (linePlaced im n before p (headAt im p) (s .progress)) (λ f. placed-read (eqb-true _ 0 e) f) (λ _ h. is-refused s 6 h))
         (λ e h. code-refused s (headAt im p .refusal) e h)
 
   -- ---- a component
@@ -126,35 +126,35 @@ module _ (im : List ℕ) (A : Agree im) (sheet most : ℕ) where
   -- a component without fault is taken with its field, if it is one
   part-goes :
       (c : read.Component) (p at lines : ℕ) (es : List Entry) → c .refusal ≡ 0 → padded im at p ≡ true → Takes sheet most es (heldBy c) →
-      takeComponent im sheet most p c (stood at lines es) ≡ stood (c .end) lines (put es (heldBy c))
+      takeComponent im sheet most p c (cameTo at lines es) ≡ cameTo (c .end) lines (put es (heldBy c))
   unfolding takeComponent takeField
   part-goes c p at lines es z d t =
-      if-ne (c .refusal) 6 _ _ (λ e. omega arith) ∙ if-true _ _ d ∙ by-test {A = chosen ≡ stood (c .end) lines (put es (heldBy c))} (c .holds) field plain
+      if-ne (c .refusal) 6 _ _ (λ e. omega arith) ∙ if-true _ _ d ∙ by-test {A = chosen ≡ cameTo (c .end) lines (put es (heldBy c))} (c .fielded) field plain
     where
       s : State
-      s = stood at lines es
+      s = cameTo at lines es
 
-      go : Takes sheet most es (c .field ∷ []) → takeField sheet most c s ≡ stood (c .end) lines (put es (c .field ∷ []))
+      go : Takes sheet most es (c .field ∷ []) → takeField sheet most c s ≡ cameTo (c .end) lines (put es (c .field ∷ []))
       go (Takes.add a b f u) =
           if-gt most (length es) _ _ a ∙ if-eq (c .refusal) 0 _ _ z ∙ if-true _ _ b ∙ if-true _ _ f
           ∙ ap (λ (k : ℕ). state (record { refusal = 0; at = c .end; lines = lines; fields = k }) (put es (c .field ∷ []))) (sym (length-append es (entryOf (c .field) ∷ [])))
 
       chosen : State
       chosen =
-          if c .holds then takeField sheet most c s
-          else if c .refusal =? 0 then with s (passed (s .walk) (c .end))
-          else with s (refused (s .walk) (c .refusal))
+          if c .fielded then takeField sheet most c s
+          else if c .refusal =? 0 then with s (readTo (s .progress) (c .end))
+          else with s (refused (s .progress) (c .refusal))
 
-      field : c .holds ≡ true → chosen ≡ stood (c .end) lines (put es (heldBy c))
+      field : c .fielded ≡ true → chosen ≡ cameTo (c .end) lines (put es (heldBy c))
       field e = if-true _ _ e ∙ rw (if-true (c .field ∷ []) [] e) (go (rw (if-true (c .field ∷ []) [] e) at t))
 
-      plain : c .holds ≡ false → chosen ≡ stood (c .end) lines (put es (heldBy c))
+      plain : c .fielded ≡ false → chosen ≡ cameTo (c .end) lines (put es (heldBy c))
       plain e = if-false _ _ e ∙ if-eq (c .refusal) 0 _ _ z ∙ rw (if-false (c .field ∷ []) [] e, append-nil)
 
   -- a component of the grammar is taken
   pub component-goes :
       (p end at lines : ℕ) (es : List Entry) (fs : List Field) → Component im p end fs → Aligned im 0 at p → Takes sheet most es fs →
-      onComponent im sheet most p (stood at lines es) ≡ stood end lines (put es fs)
+      onComponent im sheet most p (cameTo at lines es) ≡ cameTo end lines (put es fs)
   unfolding onComponent
   component-goes p end at lines es fs c a t =
       let i = A .component-is c in
@@ -168,7 +168,7 @@ module _ (im : List ℕ) (A : Agree im) (sheet most : ℕ) where
 
   module _ (p at lines : ℕ) (es : List Entry) where
     abbrev u : State
-    u = stood at lines es
+    u = cameTo at lines es
 
     abbrev Q : State → Type 0
     Q r = fine r ≡ true → Taken p at es
@@ -176,7 +176,7 @@ module _ (im : List ℕ) (A : Agree im) (sheet most : ℕ) where
     abbrev c : read.Component
     c = componentAt im p
 
-    field-read : padded im at p ≡ true → c .holds ≡ true → Q (takeField sheet most c u)
+    field-read : padded im at p ≡ true → c .fielded ≡ true → Q (takeField sheet most c u)
     unfolding takeField
     field-read d f =
         if-ind Q (most ≤? length es) (λ _ h. is-refused u 7 h)
@@ -198,7 +198,7 @@ module _ (im : List ℕ) (A : Agree im) (sheet most : ℕ) where
     component-read =
         if-ind Q (c .refusal =? 6) (λ _ h. is-refused u 5 h)
         (λ _. if-ind Q (padded im at p)
-        (λ d. if-ind Q (c .holds) (field-read d)
+        (λ d. if-ind Q (c .fielded) (field-read d)
         (λ f. if-ind Q (c .refusal =? 0)
         (λ e h. record { refusal = eqb-true _ 0 e; padding = padded-reads im at p d; takes = rw (if-false (c .field ∷ []) [] f) Takes.none })
         (λ e h. code-refused u (c .refusal) e h)))

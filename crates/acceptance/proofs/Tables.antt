@@ -17,7 +17,7 @@ use Rattle.cmf.specs.Grammar.{Line, Lines, TableOver, Table, nextLine}
 use Rattle.cmf.proofs.Agreement.{Agree, HeadReads}
 use Rattle.acceptance.specs.declared.index.Entry.{Entry}
 use Rattle.acceptance.specs.Check.{State, fine, onTitle, onLine, onLines, onTable}
-use Rattle.acceptance.proofs.Stood.{stood, put, put-put, is-refused, Then, then-fine, then-is}
+use Rattle.acceptance.proofs.CameTo.{cameTo, put, put-put, is-refused, Then, then-fine, then-is}
 use Rattle.acceptance.proofs.Takes.{Takes, takes-join, takes-split}
 use Rattle.acceptance.proofs.Steps.{title-goes, title-read}
 use Rattle.acceptance.proofs.Line.{Came, head-reads, last-marked, more-marked, SubGoes, SubReads, LineRead, line-goes, line-read}
@@ -49,8 +49,8 @@ module _ (im : List ℕ) (A : Agree im) (sheet most : ℕ) where
   module _ (submenu : ℕ → State → State) (Sub : ℕ → List Field → ℕ → Type 0) where
     -- one line, and then the others
     pub walk-on :
-        (n before p : ℕ) (ps : List ℕ) (s : State) (at lines : ℕ) (es : List Entry) → onLine im sheet most submenu n before p s ≡ stood at lines es →
-        onLines im sheet most submenu n before (p ∷ ps) s ≡ onLines im sheet most submenu (n + 1) p ps (stood at lines es)
+        (n before p : ℕ) (ps : List ℕ) (s : State) (at lines : ℕ) (es : List Entry) → onLine im sheet most submenu n before p s ≡ cameTo at lines es →
+        onLines im sheet most submenu n before (p ∷ ps) s ≡ onLines im sheet most submenu (n + 1) p ps (cameTo at lines es)
     unfolding onLines
     walk-on n before p ps s at lines es e = then-is (onLines im sheet most submenu (n + 1) p ps) (onLine im sheet most submenu n before p s) at lines es e
 
@@ -62,22 +62,22 @@ module _ (im : List ℕ) (A : Agree im) (sheet most : ℕ) where
     pub lines-go :
         SubGoes im A sheet most submenu Sub → {n before p k : ℕ} {fs : List Field} → Lines im Sub n before p fs k →
         (j at lines : ℕ) (es : List Entry) → n + j ≡ mostLinesOfTable + 1 → Aligned im 1 at p → Takes sheet most es fs → lines + k ≤ mostLines →
-        Came (onLines im sheet most submenu n before (linesFrom im j p) (stood at lines es)) (lines + k) (put es fs)
+        Came (onLines im sheet most submenu n before (linesFrom im j p) (cameTo at lines es)) (lines + k) (put es fs)
     lines-go go (Lines.last end few x b) zero at lines es e a t l = absurd (omega arith)
     lines-go go {n} {before} {p} {k} {fs} (Lines.last end few x b) (suc j) at lines es e a t l = record {
       end = end;
       is =
-          ap (λ (ps : List ℕ). onLines im sheet most submenu n before ps (stood at lines es)) (lines-last im j p (last-marked im A (line-reads im A x) b))
-          ∙ walk-on n before p [] (stood at lines es) end (lines + k) (put es fs) (line-goes im A sheet most submenu Sub go x at lines es few a t l)
-          ∙ walk-done (n + 1) p (stood end (lines + k) (put es fs));
+          ap (λ (ps : List ℕ). onLines im sheet most submenu n before ps (cameTo at lines es)) (lines-last im j p (last-marked im A (line-reads im A x) b))
+          ∙ walk-on n before p [] (cameTo at lines es) end (lines + k) (put es fs) (line-goes im A sheet most submenu Sub go x at lines es few a t l)
+          ∙ walk-done (n + 1) p (cameTo end (lines + k) (put es fs));
     }
     lines-go go (Lines.more end few x b a′ r) zero at lines es e a t l = absurd (omega arith)
     lines-go go {n} {before} {p} (Lines.more {k = k} {j = i} {fs = fs} {gs = gs} end few x b a′ r) (suc j) at lines es e a t l =
         let h = line-reads im A x in
         let u = takes-split sheet most fs {gs = gs} t in
         came-by
-        (ap (λ (ps : List ℕ). onLines im sheet most submenu n before ps (stood at lines es)) (lines-more im j p (more-marked im A h b) ∙ rw (h .next))
-        ∙ walk-on n before p (linesFrom im j (nextLine im p)) (stood at lines es) end (lines + k) (put es fs)
+        (ap (λ (ps : List ℕ). onLines im sheet most submenu n before ps (cameTo at lines es)) (lines-more im j p (more-marked im A h b) ∙ rw (h .next))
+        ∙ walk-on n before p (linesFrom im j (nextLine im p)) (cameTo at lines es) end (lines + k) (put es fs)
         (line-goes im A sheet most submenu Sub go x at lines es few a (u .0) (omega arith)))
         (add-assoc lines k i) (put-put es fs gs)
         (lines-go go r j end (lines + k) (put es fs) (omega arith) a′ (u .1) (omega arith))
@@ -94,7 +94,7 @@ module _ (im : List ℕ) (A : Agree im) (sheet most : ℕ) where
     abbrev Reads : ℕ → Type 0
     Reads j =
         (n before p at lines : ℕ) (es : List Entry) → n + j ≡ mostLinesOfTable + 1 → n ≤ mostLinesOfTable →
-        fine (onLines im sheet most submenu n before (linesFrom im j p) (stood at lines es)) ≡ true → LinesRead n before p at lines es
+        fine (onLines im sheet most submenu n before (linesFrom im j p) (cameTo at lines es)) ≡ true → LinesRead n before p at lines es
 
     -- one turn of it
     one-read : SubGoes im A sheet most submenu Sub → SubReads im A sheet most submenu Sub → (j : ℕ) → Reads j → Reads (suc j)
@@ -102,7 +102,7 @@ module _ (im : List ℕ) (A : Agree im) (sheet most : ℕ) where
     one-read go reads j rest n before p at lines es e i f = by-test (headAt im p .last) last more
       where
         one : State
-        one = onLine im sheet most submenu n before p (stood at lines es)
+        one = onLine im sheet most submenu n before p (cameTo at lines es)
 
         t : Then one (onLines im sheet most submenu (n + 1) p (if headAt im p .last then [] else linesFrom im j (headAt im p .next)) one)
         t = then-fine one _ f
@@ -113,7 +113,7 @@ module _ (im : List ℕ) (A : Agree im) (sheet most : ℕ) where
         h : HeadReads im p
         h = A .head-reads p (x .refusal)
 
-        step : one ≡ stood (x .end) (lines + x .count) (put es (x .fields))
+        step : one ≡ cameTo (x .end) (lines + x .count) (put es (x .fields))
         step = line-goes im A sheet most submenu Sub go (x .line) at lines es (x .few) (x .aligned) (x .takes) (x .room)
 
         last : headAt im p .last ≡ true → LinesRead n before p at lines es
@@ -152,7 +152,7 @@ module _ (im : List ℕ) (A : Agree im) (sheet most : ℕ) where
   table-goes zero = λ t at lines es fs k x. absurd x
   table-goes (suc left) = λ t at lines es fs k x u l.
       let i = A .title-is (x .title) in
-      let s : onTitle im sheet most t (stood at lines es) ≡ stood (x .titleEnd) lines es = title-goes im A sheet most t at lines es (i .refusal) ∙ rw (i .ends) in
+      let s : onTitle im sheet most t (cameTo at lines es) ≡ cameTo (x .titleEnd) lines es = title-goes im A sheet most t at lines es (i .refusal) ∙ rw (i .ends) in
       came-by
       (then-is (onLines im sheet most (onTable im sheet most left) 0 0 (linesFrom im (mostLinesOfTable + 1) (titleAt im t .line))) _ (x .titleEnd) lines es s ∙ rw (first-line im A x))
       refl refl
@@ -169,7 +169,7 @@ module _ (im : List ℕ) (A : Agree im) (sheet most : ℕ) where
   table-read zero = λ t at lines es f. too-deep t _ f
   table-read (suc left) = λ t at lines es f.
       let w = then-fine _ _ f in
-      let z = title-read im A sheet most t (stood at lines es) (w .before) in
+      let z = title-read im A sheet most t (cameTo at lines es) (w .before) in
       let r = A .title-reads t z in
       let end = titleAt im t .end in
       let b =

@@ -15,7 +15,7 @@ use Rattle.cmf.specs.Limits.{longestSheet}
 use Rattle.cmf.specs.Grammar.{Every, InSheet, Disjoint, Apart}
 use Rattle.acceptance.specs.declared.index.Entry.{Entry}
 use Rattle.acceptance.specs.Check.{entryOf, inSheet, apart, apartFrom}
-use Rattle.acceptance.proofs.Stood.{clash, put, put-put}
+use Rattle.acceptance.proofs.CameTo.{clash, put, put-put}
 
 abbrev one : Entry → List Entry
 one e = e ∷ []

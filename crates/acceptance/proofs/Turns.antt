@@ -14,9 +14,9 @@ use Rattle.cmf.specs.Readers.{headAt, componentAt}
 use Rattle.cmf.specs.Places.{linesFrom, componentsFrom}
 use Rattle.cmf.proofs.Agreement.{Agree}
 use Rattle.cmf.specs.declared.component.Component as read
-use Rattle.acceptance.specs.declared.state.Walk.{Walk}
+use Rattle.acceptance.specs.declared.progress.Progress.{Progress}
 use Rattle.acceptance.specs.Check.{State, with, fine, andThen, padded, takeField, takeComponent, linePlaced, countLine, takeLine, onComponent, onComponents, onHead, onLine, onLines}
-use Rattle.acceptance.proofs.Stood.{code-refused, is-refused, then-fine}
+use Rattle.acceptance.proofs.CameTo.{code-refused, is-refused, then-fine}
 use Rattle.acceptance.proofs.Parts.{places-last, places-more}
 use Rattle.acceptance.proofs.Tables.{lines-last, lines-more}
 
@@ -56,9 +56,9 @@ module _ (im : List ℕ) where
     unfolding onComponent takeComponent takeField
     part-code c s =
         if-ind P (x .refusal =? 6) (λ _ h. is-refused s 5 h)
-        (λ _. if-ind P (padded im (s .walk .at) c)
-        (λ _. if-ind P (x .holds)
-        (λ _. if-ind P (most ≤? s .walk .fields) (λ _ h. is-refused s 7 h)
+        (λ _. if-ind P (padded im (s .progress .at) c)
+        (λ _. if-ind P (x .fielded)
+        (λ _. if-ind P (most ≤? s .progress .fields) (λ _ h. is-refused s 7 h)
         (λ _. if-ind P (x .refusal =? 0) (λ e _. eqb-true _ 0 e) (λ e h. code-refused s (x .refusal) e h)))
         (λ _. if-ind P (x .refusal =? 0) (λ e _. eqb-true _ 0 e) (λ e h. code-refused s (x .refusal) e h)))
         (λ _ h. is-refused s 6 h))
@@ -103,13 +103,13 @@ module _ (im : List ℕ) where
     unfolding onHead takeLine countLine
     head-few n before p s =
         if-ind P (headAt im p .refusal =? 0)
-        (λ _. if-ind P (linePlaced im n before p (headAt im p) (s .walk))
+        (λ _. if-ind P (linePlaced im n before p (headAt im p) (s .progress))
         (λ _. if-ind P (mostLinesOfTable ≤? n) (λ _ h. is-refused s 7 h)
         (λ e _. leb-false mostLinesOfTable n e))
         (λ _ h. is-refused s 6 h))
         (λ e h. code-refused s (headAt im p .refusal) e h)
       where
-        P : Walk → Type 0
+        P : Progress → Type 0
         P w = fine (with s w) ≡ true → n < mostLinesOfTable
 
     line-few : (n before p : ℕ) (s : State) → fine (onLine im sheet most submenu n before p s) ≡ true → n < mostLinesOfTable

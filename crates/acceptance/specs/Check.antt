@@ -15,33 +15,33 @@ use Rattle.cmf.specs.declared.title.Title.{Title}
 use Rattle.cmf.specs.declared.head.Head.{Head}
 use Rattle.cmf.specs.declared.component.Component.{Component}
 use Rattle.acceptance.specs.declared.index.Entry.{Entry}
-use Rattle.acceptance.specs.declared.state.Walk.{Walk}
+use Rattle.acceptance.specs.declared.progress.Progress.{Progress}
 
 -- the walk's state, and the fields that it has taken, in order
 pub record State : Type 0 where
-  pub walk : Walk
+  pub progress : Progress
   pub fields : List Entry
 
-abbrev pub state : Walk → List Entry → State
-state w es = record { walk = w; fields = es }
+abbrev pub state : Progress → List Entry → State
+state w es = record { progress = w; fields = es }
 
-abbrev pub with : State → Walk → State
+abbrev pub with : State → Progress → State
 with s w = state w (s .fields)
 
 -- no refusal so far
 unfoldable pub fine : State → Bool
-fine s = s .walk .refusal =? 0
+fine s = s .progress .refusal =? 0
 
-abbrev pub refused : Walk → ℕ → Walk
+abbrev pub refused : Progress → ℕ → Progress
 refused w k = record { refusal = k; at = w .at; lines = w .lines; fields = w .fields }
 
 -- a thing that ends at `at` is read
-abbrev pub passed : Walk → ℕ → Walk
-passed w at = record { refusal = 0; at = at; lines = w .lines; fields = w .fields }
+abbrev pub readTo : Progress → ℕ → Progress
+readTo w at = record { refusal = 0; at = at; lines = w .lines; fields = w .fields }
 
 -- the walk goes on behind a line that ends at `at`; where it is refused it stays where the last thing that stands ended
-abbrev pub behind : Walk → ℕ → Walk
-behind w at = record { refusal = w .refusal; at = if w .refusal =? 0 then at else w .at; lines = w .lines; fields = w .fields }
+abbrev pub pastLine : Progress → ℕ → Progress
+pastLine w at = record { refusal = w .refusal; at = if w .refusal =? 0 then at else w .at; lines = w .lines; fields = w .fields }
 
 -- the second, unless the first is a refusal
 unfoldable pub andThen : State → State → State
@@ -53,8 +53,8 @@ padded im at place = if at =? place then true else byteAt im at =? 0
 
 -- ---- a table's title
 
-unfoldable pub takeTitle : Title → Walk → Walk
-takeTitle t w = if t .refusal =? 0 then passed w (t .end) else refused w (t .refusal)
+unfoldable pub takeTitle : Title → Progress → Progress
+takeTitle t w = if t .refusal =? 0 then readTo w (t .end) else refused w (t .refusal)
 
 -- ---- a line's head
 
@@ -66,18 +66,18 @@ agrees n before p h =
     else before + h .back =? p
 
 -- R6, R7, R8: a line stands where the one before leads and at the first odd place
-unfoldable pub linePlaced : List ℕ → ℕ → ℕ → ℕ → Head → Walk → Bool
+unfoldable pub linePlaced : List ℕ → ℕ → ℕ → ℕ → Head → Progress → Bool
 linePlaced im n before p h w = (p =? oddFrom (w .at)) and (padded im (w .at) p and agrees n before p h)
 
 -- 01, row 8: the 100th line of its table or the 1,025th of the walk is at fault; row 9: so is a bad password
-unfoldable pub countLine : ℕ → Head → Walk → Walk
+unfoldable pub countLine : ℕ → Head → Progress → Progress
 countLine n h w =
     if mostLinesOfTable ≤? n then refused w 8
     else if mostLines ≤? w .lines then refused w 8
-    else if h .good then record { refusal = 0; at = h .end; lines = w .lines + 1; fields = w .fields }
+    else if h .typeable then record { refusal = 0; at = h .end; lines = w .lines + 1; fields = w .fields }
     else refused w 9
 
-unfoldable pub takeLine : List ℕ → ℕ → ℕ → ℕ → Head → Walk → Walk
+unfoldable pub takeLine : List ℕ → ℕ → ℕ → ℕ → Head → Progress → Progress
 takeLine im n before p h w =
     if h .refusal =? 0 then (if linePlaced im n before p h w then countLine n h w else refused w 7)
     else refused w (h .refusal)
@@ -107,24 +107,24 @@ apartFrom e (f ∷ fs) = apart e f and apartFrom e fs
 -- a field: 8 if there are as many as there may be (`most`: the code's array has room for no more), 9 for bad settings, 10 and 11 for its bytes in the sheet
 unfoldable pub takeField : ℕ → ℕ → Component → State → State
 takeField sheet most c s =
-    if most ≤? s .walk .fields then with s (refused (s .walk) 8)
+    if most ≤? s .progress .fields then with s (refused (s .progress) 8)
     else if c .refusal =? 0 then
     (if inSheet sheet (entryOf (c .field)) then
     (if apartFrom (entryOf (c .field)) (s .fields) then
-    state (record { refusal = 0; at = c .end; lines = s .walk .lines; fields = s .walk .fields + 1 }) (s .fields ++ (entryOf (c .field) ∷ []))
-    else with s (refused (s .walk) 11))
-    else with s (refused (s .walk) 10))
-    else with s (refused (s .walk) (c .refusal))
+    state (record { refusal = 0; at = c .end; lines = s .progress .lines; fields = s .progress .fields + 1 }) (s .fields ++ (entryOf (c .field) ∷ []))
+    else with s (refused (s .progress) 11))
+    else with s (refused (s .progress) 10))
+    else with s (refused (s .progress) (c .refusal))
 
 -- a component at a place: 6 first, then 7 for the padding before it
 unfoldable pub takeComponent : List ℕ → ℕ → ℕ → ℕ → Component → State → State
 takeComponent im sheet most p c s =
-    if c .refusal =? 6 then with s (refused (s .walk) 6)
-    else if padded im (s .walk .at) p then
-    (if c .holds then takeField sheet most c s
-    else if c .refusal =? 0 then with s (passed (s .walk) (c .end))
-    else with s (refused (s .walk) (c .refusal)))
-    else with s (refused (s .walk) 7)
+    if c .refusal =? 6 then with s (refused (s .progress) 6)
+    else if padded im (s .progress .at) p then
+    (if c .fielded then takeField sheet most c s
+    else if c .refusal =? 0 then with s (readTo (s .progress) (c .end))
+    else with s (refused (s .progress) (c .refusal)))
+    else with s (refused (s .progress) 7)
 
 -- ---- the walk
 
@@ -137,15 +137,15 @@ module _ (im : List ℕ) (sheet most : ℕ) where
   onComponents (c ∷ cs) s = andThen (onComponent c s) (onComponents cs (onComponent c s))
 
   unfoldable pub onHead : ℕ → ℕ → ℕ → State → State
-  onHead n before p s = with s (takeLine im n before p (headAt im p) (s .walk))
+  onHead n before p s = with s (takeLine im n before p (headAt im p) (s .progress))
 
   unfoldable pub onTitle : ℕ → State → State
-  onTitle t s = with s (takeTitle (titleAt im t) (s .walk))
+  onTitle t s = with s (takeTitle (titleAt im t) (s .progress))
 
   module _ (submenu : ℕ → State → State) where
     -- a line's submenu; the walk then goes on behind the line
     unfoldable pub onSubmenu : Head → State → State
-    onSubmenu h s = if h .submenu then with (submenu (h .table) s) (behind (submenu (h .table) s .walk) (s .walk .at)) else s
+    onSubmenu h s = if h .submenu then with (submenu (h .table) s) (pastLine (submenu (h .table) s .progress) (s .progress .at)) else s
 
     unfoldable pub onBody : ℕ → State → State
     onBody p s = andThen (onComponents (componentsOf im p) s) (onSubmenu (headAt im p) (onComponents (componentsOf im p) s))
@@ -160,7 +160,7 @@ module _ (im : List ℕ) (sheet most : ℕ) where
 
   -- the table at a place; so many levels are left, its own among them. R15: a table too deep is 6 if its title is not all there, else 8
   unfoldable pub onTable : ℕ → ℕ → State → State
-  onTable zero t s = andThen (onTitle t s) (with (onTitle t s) (refused (onTitle t s .walk) 8))
+  onTable zero t s = andThen (onTitle t s) (with (onTitle t s) (refused (onTitle t s .progress) 8))
   onTable (suc left) t s = andThen (onTitle t s) (onLines (onTable left) 0 0 (linesOf im t) (onTitle t s))
 
 abbrev pub start : State
@@ -185,7 +185,7 @@ prologCode im =
 unfoldable pub checked : List ℕ → ℕ → State
 checked im sheet =
     if prologCode im =? 0 then walked im sheet
-    else with start (refused (start .walk) (prologCode im))
+    else with start (refused (start .progress) (prologCode im))
 
 unfoldable pub refusalOf : List ℕ → ℕ → ℕ
-refusalOf im sheet = checked im sheet .walk .refusal
+refusalOf im sheet = checked im sheet .progress .refusal

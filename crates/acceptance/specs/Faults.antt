@@ -41,7 +41,7 @@ pub data Structure : Type 0 where
   component : (at p : ℕ) → Structure
 
 -- R6: the first even (parity 0) or odd (parity 1) offset at or after a place
-pub record Place (parity at place : ℕ) : Type 0 where
+pub record FirstOfParity (parity at place : ℕ) : Type 0 where
   pub agrees : place % 2 ≡ parity
   pub after : at ≤ place
   pub first : place ≤ at + 1
@@ -63,7 +63,7 @@ pub data HeadFault (im : List ℕ) (lines n before at p : ℕ) : ℕ → Type 0 
   cut : HeadCut im p → HeadFault im lines n before at p 6
   -- row 7: R9; R7, the line does not stand at the first odd offset; R6, the byte skipped is not zero
   wrong : HeadWrong im p → HeadFault im lines n before at p 7
-  misplaced : (Place 1 at p → ⊥) → HeadFault im lines n before at p 7
+  misplaced : (FirstOfParity 1 at p → ⊥) → HeadFault im lines n before at p 7
   padding : at < p → (byteAt im at ≡ 0 → ⊥) → HeadFault im lines n before at p 7
   -- R8: no first mark at the first line, one at another, or a pointer back that does not lead to the line before
   unmarked : n ≡ 0 → isFirst im p ≡ 0 → HeadFault im lines n before at p 7
@@ -102,7 +102,7 @@ Applies im sheet fs lines (component at p) k = ComponentFault im sheet fs at p k
 
 -- among a line's components from `at` on a structure comes behind components that stand; these are the fields before it
 pub data InComponents (im : List ℕ) : (at : ℕ) (x : Structure) (fs : List Field) → Type 0 where
-  here : {at : ℕ} (p : ℕ) → Place 0 at p → InComponents im at (component at p) []
+  here : {at : ℕ} (p : ℕ) → FirstOfParity 0 at p → InComponents im at (component at p) []
   later :
       {at : ℕ} {x : Structure} {fs gs : List Field} (p mid : ℕ) →
       Aligned im 0 at p → Component im p mid fs → lastBit im p ≡ 0 → InComponents im mid x gs →
@@ -140,7 +140,7 @@ pub data InTableOver (im : List ℕ) (Submenu : ℕ → List Field → ℕ → T
   first : InTableOver im Submenu Below left t (title left t) [] 0
   lines :
       {x : Structure} {fs : List Field} {k : ℕ} (end p : ℕ) →
-      Text im t end → Place 1 end p → InLines im Submenu Below 0 0 end p x fs k →
+      Text im t end → FirstOfParity 1 end p → InLines im Submenu Below 0 0 end p x fs k →
       InTableOver im Submenu Below left t x fs k
 
 -- R15: of a table too deep nothing but the title
@@ -164,7 +164,7 @@ pub record Kept (sheet lines : ℕ) (fs : List Field) : Type 0 where
 -- an image is refused with k: its prolog is, or the prolog is good and some structure, behind structures that all stand, is at fault
 pub data Refused (im : List ℕ) (sheet : ℕ) : ℕ → Type 0 where
   prolog : {k : ℕ} → Lowest (PrologFault im) k → Refused im sheet k
-  walk :
+  progress :
       {k : ℕ} (x : Structure) (fs : List Field) (lines : ℕ) →
       Prolog im → InTable im deepestTable prologBytes x fs lines → Kept sheet lines fs → Lowest (Applies im sheet fs lines x) k →
       Refused im sheet k

@@ -7,7 +7,7 @@ use Rattle.laws.specs.Overwrite.{fit}
 use Rattle.cmf.specs.Limits.{mostFields}
 use Rattle.acceptance.specs.Check.{State, state}
 use Rattle.acceptance.specs.declared.index.Entry.{Entry}
-use Rattle.acceptance.specs.declared.state.Walk.{Walk}
+use Rattle.acceptance.specs.declared.progress.Progress.{Progress}
 
 abbrev pub entry : ℕ → ℕ → ℕ → Entry
 entry p f n = record { place = record { 0 = p }; from = record { 0 = f }; size = n }
@@ -31,7 +31,7 @@ withEntry xs k e =
     if k <? capacity xs then set (set (set xs (3 * k) (e .place .0)) (3 * k + 1) (e .from .0)) (3 * k + 2) (e .size) else xs
 
 -- the walk's state as the code has it
-abbrev pub seen : Walk → List ℕ → State
+abbrev pub seen : Progress → List ℕ → State
 seen w xs = state w (listed xs (w .fields))
 
 -- the numbers of entries, one entry after another

@@ -7,8 +7,8 @@ ghost use Rattle.acceptance.specs.Index.{entryAt, listed, withEntry};
 use cmf::image::Image;
 use field::kind::ImagePlace;
 use field::kind::SheetPlace;
+use field::profile::profile_of;
 use field::record::Field;
-use field::table::profile_of;
 
 // A reached field: the place of its component's tag in the image, and its bytes in the sheet.
 pub struct Entry {

@@ -20,20 +20,20 @@ use Rattle.cmf.specs.declared.place.Found.{Found}
 use Rattle.cmf.specs.declared.place.Found.the-variants.{At, Nothing}
 use Rattle.acceptance.specs.Check.{refusalOf}
 use Rattle.acceptance.proofs.Acceptance.{accepted-exactly-when-well-formed}
-use Rattle.session.specs.Steps.{told, isRefused, taken, flash}
+use Rattle.session.specs.Answers.{answerNumber, isRefused, taken, flash}
 use Rattle.session.specs.Seconds.{browseSecond, entrySecond}
 use Rattle.session.specs.Browsing.{upStep, downStep, leftStep, descended, rightStep, enterAt, enterStep, browseStep}
 use Rattle.session.specs.Passwords.{lastDigit, digitStep, entryStep}
 use Rattle.session.specs.Visits.{followed, visitStep}
-use Rattle.session.specs.Event.{stepIn, stepOf}
+use Rattle.session.specs.Step.{stepIn, stepOf}
 use Rattle.session.specs.Fits.{shapeFits, levelFits, levelsFit, tablesFit, visitFits, modeFits, sessionFits}
 use Rattle.session.specs.declared.session.Level.{Level}
 use Rattle.session.specs.declared.session.Mode.{Mode}
 use Rattle.session.specs.declared.session.Mode.the-variants as mode
 use Rattle.session.specs.declared.session.Session.{Session}
-use Rattle.session.specs.declared.step.Answer.{Answer}
-use Rattle.session.specs.declared.step.Answer.the-variants as answer
-use Rattle.session.specs.declared.step.Stepped.{Stepped}
+use Rattle.session.specs.declared.answer.Answer.{Answer}
+use Rattle.session.specs.declared.answer.Answer.the-variants as answer
+use Rattle.session.specs.declared.answer.Stepped.{Stepped}
 use Rattle.picture.specs.Cursor.{cursorIn, dataCell}
 use Rattle.handset.proofs.Ordering.{Granted}
 use Rattle.binding.specs.Answers.{placeOf, cursorNumber}
@@ -46,8 +46,8 @@ pub record Plain (n : ℕ) (r : Stepped) : Type 0 where
   pub near : placeOf (r .answer) ≤ n
 
 -- its number is below that of every refusal
-pub told-plain : (a : Answer) → isRefused a ≡ false → told a ≤ 131072 + placeOf a
-unfolding told placeOf
+pub told-plain : (a : Answer) → isRefused a ≡ false → answerNumber a ≤ 131072 + placeOf a
+unfolding answerNumber placeOf
 told-plain answer.Taken h = omega arith
 told-plain answer.Flash h = omega arith
 told-plain (answer.Finished p) h = omega arith
@@ -105,10 +105,10 @@ plain-step im sheet s e (mode.Password k) = plain-entry im s k e
 pub short : (im : List ℕ) (sheet : ℕ) → refusalOf im sheet ≡ 0 → length im ≤ 32768
 short im sheet h = accepted-exactly-when-well-formed im sheet .0 h .prolog .most
 
-holds-inside : (im : List ℕ) (p : ℕ) → componentAt im p .holds ≡ true → p < length im
+holds-inside : (im : List ℕ) (p : ℕ) → componentAt im p .fielded ≡ true → p < length im
 unfolding componentAt
 holds-inside im p =
-    if-ind (λ (c : Component). c .holds ≡ true → p < length im) (p <? length im) (λ e _. ltb-true p (length im) e) (λ _ h. absurd (false≢true h))
+    if-ind (λ (c : Component). c .fielded ≡ true → p < length im) (p <? length im) (λ e _. ltb-true p (length im) e) (λ _ h. absurd (false≢true h))
 
 visited-inside : (im : List ℕ) (s : Session) (m : Mode) → modeFits im s m ≡ true → visited m ≤ length im
 unfolding modeFits visitFits visited

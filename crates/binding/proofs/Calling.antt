@@ -12,15 +12,15 @@ use Rattle.laws.proofs.Cases.{if-ind, by-test, if-eq, if-ne}
 use Rattle.acceptance.specs.Check.{refusalOf}
 use Rattle.session.specs.Session.{closed}
 use Rattle.session.specs.Fits.{shapeFits, sessionFits}
-use Rattle.session.specs.Steps.{told}
+use Rattle.session.specs.Answers.{answerNumber}
 use Rattle.session.specs.declared.session.Session.{Session}
-use Rattle.session.specs.declared.step.Stepped.{Stepped}
+use Rattle.session.specs.declared.answer.Stepped.{Stepped}
 use Rattle.session_bytes.specs.Layout.{sessionBytes, sessionWritten, sessionIn, sessionFrom}
 use Rattle.session_bytes.proofs.Layouts.{written}
 use Rattle.session.proofs.Closed.{closed-never-fits}
 use Rattle.handset.specs.Refusals.{_before_, _unless_, sessionRefusal}
 use Rattle.handset.specs.Open.{openRefusal, openAnswer, openSheet}
-use Rattle.handset.specs.Event.{eventRefusal, eventStep, eventTold, eventSheet, refusedWith}
+use Rattle.handset.specs.Event.{eventRefusal, eventStep, eventAnswer, eventSheet, refusedWith}
 use Rattle.handset.specs.Draw.{drawRefusal, drawCursor, drawnPicture}
 use Rattle.handset.specs.OptionText.{textRefusal, textPlace}
 use Rattle.handset.specs.declared.option.TextPlace.{TextPlace}
@@ -138,15 +138,15 @@ module _ (im sheet bs : List ℕ) (e : ℕ) {s : Session} (p : s ≡ sessionFrom
       (λ t. omega (arith, plain (eqb-true refusal 0 t) .near))
       (λ t. rw (← refused (eqb-false refusal 0 t)) (omega arith))
 
-  pub number-told : (n : ℕ) → n ≡ told (r .answer) → n ≡ eventNumber im sheet bs e
-  unfolding eventNumber eventTold
-  number-told n h = h ∙ ap (λ (x : Stepped). told (x .answer)) next
+  pub number-told : (n : ℕ) → n ≡ answerNumber (r .answer) → n ≡ eventNumber im sheet bs e
+  unfolding eventNumber eventAnswer
+  number-told n h = h ∙ ap (λ (x : Stepped). answerNumber (x .answer)) next
 
   pub sheet-told : (t : List ℕ) → t ≡ eventSheet im sheet s e → t ≡ eventSheet im sheet (sessionFrom bs) e
   sheet-told t h = rw p at h
 
   -- a refusal's number leaves the bytes
-  module _ (n : ℕ) (m : n ≡ told (r .answer)) (h : 16777216 ≤ n) where
+  module _ (n : ℕ) (m : n ≡ answerNumber (r .answer)) (h : 16777216 ≤ n) where
     is-refused : refusal ≡ 0 → ⊥
     is-refused z = omega (arith, told-plain (r .answer) (plain z .given), plain z .near)
 
@@ -158,12 +158,12 @@ module _ (im sheet bs : List ℕ) (e : ℕ) {s : Session} (p : s ≡ sessionFrom
     session-kept = ap (λ (x : Stepped). x .session) (refused is-refused ∙ next)
 
   -- with any other they are those of the stepped session, for which there is room
-  module _ (n : ℕ) (m : n ≡ told (r .answer)) (h : n < 16777216) where
+  module _ (n : ℕ) (m : n ≡ answerNumber (r .answer)) (h : n < 16777216) where
     not-refused : refusal ≡ 0
-    unfolding told
+    unfolding answerNumber
     not-refused =
         by-test (refusal =? 0) (λ t. eqb-true refusal 0 t)
-        (λ t. let q = ap (λ (x : Stepped). told (x .answer)) (refused (eqb-false refusal 0 t)) in absurd (omega arith))
+        (λ t. let q = ap (λ (x : Stepped). answerNumber (x .answer)) (refused (eqb-false refusal 0 t)) in absurd (omega arith))
 
     module _ (t : List ℕ) (w : t ≡ sessionWritten (r .session) bs) where
       all : t ≡ sessionBytes (r .session)

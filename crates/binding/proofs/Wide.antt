@@ -12,7 +12,7 @@ use Rattle.laws.proofs.Cases.{by-test, if-false, and-l, and-r}
 use Rattle.session.specs.Session.{opened, closed}
 use Rattle.session.specs.Fits.{shapeFits}
 use Rattle.session.specs.declared.session.Session.{Session}
-use Rattle.session.specs.declared.step.Stepped.{Stepped}
+use Rattle.session.specs.declared.answer.Stepped.{Stepped}
 use Rattle.handset.specs.Refusals.{_before_}
 use Rattle.handset.specs.Open.{openRefusal, openAnswer, openSheet}
 use Rattle.handset.specs.Event.{eventRefusal, eventStep, eventSheet}

@@ -2,9 +2,9 @@
 use Prim.Native.Nat.{ℕ, _+_, _*_}
 use mathlib.Core.List.{List, [], _∷_}
 use Rattle.laws.specs.Choice.{if_then_else_, _=?_}
-use Rattle.session.specs.Steps.{refusedFrom}
-use Rattle.session.specs.declared.step.Answer.{Answer}
-use Rattle.session.specs.declared.step.Answer.the-variants as answer
+use Rattle.session.specs.Answers.{refusedFrom}
+use Rattle.session.specs.declared.answer.Answer.{Answer}
+use Rattle.session.specs.declared.answer.Answer.the-variants as answer
 
 -- a refusal's number with 16,777,216 added, as in an answer; 0 where nothing is refused
 unfoldable pub refusedBy : ℕ → ℕ

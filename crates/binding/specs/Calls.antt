@@ -8,7 +8,7 @@ use Rattle.session.specs.declared.session.Session.{Session}
 use Rattle.session_bytes.specs.Layout.{sessionSize, sessionBytes, sessionFrom, sessionWritten}
 use Rattle.handset.specs.Refusals.{_before_, _unless_}
 use Rattle.handset.specs.Open.{openRefusal, openAnswer, openSheet}
-use Rattle.handset.specs.Event.{eventRefusal, eventStep, eventTold}
+use Rattle.handset.specs.Event.{eventRefusal, eventStep, eventAnswer}
 use Rattle.handset.specs.Draw.{drawRefusal, drawCursor}
 use Rattle.handset.specs.OptionText.{textRefusal, textPlace}
 use Rattle.binding.specs.Answers.{refusedBy, cursorNumber}
@@ -35,7 +35,7 @@ openedSession im sheet columns lines n =
 -- ---- Event: the session that the bytes then are is that of `eventStep`
 
 unfoldable pub eventNumber : List ℕ → List ℕ → List ℕ → ℕ → ℕ
-eventNumber im sheet bs e = eventTold im sheet (sessionFrom bs) e
+eventNumber im sheet bs e = eventAnswer im sheet (sessionFrom bs) e
 
 -- the next session; a refused Event leaves every byte of the session it got
 unfoldable pub eventBytes : List ℕ → List ℕ → List ℕ → ℕ → List ℕ

@@ -1,11 +1,11 @@
 // The answers of the calls as numbers.
 ghost use mathlib.Core.Path.{_≡_};
 ghost use Prim.Native.Nat.{_<_};
-ghost use Rattle.session.specs.Steps.{told};
+ghost use Rattle.session.specs.Answers.{answerNumber};
 ghost use Rattle.picture.specs.Cursor as cursor_at;
 ghost use Rattle.binding.specs.Answers.{refusedBy, placeOf, cursorNumber};
 use picture::cursor::EditCursor;
-use session::step::Answer;
+use session::answer::Answer;
 
 pub const FINISHED: u32 = 65536;
 
@@ -26,9 +26,9 @@ pub(crate) fn refused_by(refusal: u8) -> u32
 }
 
 // What an event answered.
-pub(crate) fn told(answer: Answer) -> u32
+pub(crate) fn answer_number(answer: Answer) -> u32
     requires { ⌜ placeOf answer < 65536 ⌝ }
-    ensures { λ r. ⌜ r ≡ told answer ⌝ }
+    ensures { λ r. ⌜ r ≡ answerNumber answer ⌝ }
 {
     match answer {
         Answer::Taken => 0,
@@ -41,8 +41,8 @@ pub(crate) fn told(answer: Answer) -> u32
 
 // Where the edit cursor stands, 0 for nowhere.
 pub(crate) fn cursor_number(cursor: EditCursor) -> u32
-    requires { ⌜ cursorNumber (cursor_at.told cursor) < 131072 ⌝ }
-    ensures { λ r. ⌜ r ≡ cursorNumber (cursor_at.told cursor) ⌝ }
+    requires { ⌜ cursorNumber (cursor_at.cursorPlace cursor) < 131072 ⌝ }
+    ensures { λ r. ⌜ r ≡ cursorNumber (cursor_at.cursorPlace cursor) ⌝ }
 {
     match cursor {
         EditCursor::Nowhere => 0,

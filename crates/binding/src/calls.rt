@@ -9,9 +9,9 @@ ghost use Rattle.handset.specs.Open.{openRefusal};
 ghost use Rattle.handset.specs.Event.{eventStep, eventSheet};
 ghost use Rattle.handset.specs.Draw.{drawnPicture};
 use crate::answer::REFUSED;
+use crate::answer::answer_number;
 use crate::answer::cursor_number;
 use crate::answer::refused_by;
-use crate::answer::told;
 use field::kind::ImagePlace;
 use handset::draw::draw;
 use handset::open::open;
@@ -94,7 +94,7 @@ pub extern "C" fn handset_event(
         byte_of(event),
     );
     let answer = stepped.answer;
-    let number = told(answer);
+    let number = answer_number(answer);
     if REFUSED <= number {
         return number;
     }

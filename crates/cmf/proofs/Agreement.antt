@@ -29,7 +29,7 @@ pub record ComponentReads (im : List ℕ) (at : ℕ) : Type 0 where
 -- what a head of the grammar reads as
 pub record HeadIs (im : List ℕ) (n before p end : ℕ) : Type 0 where
   pub refusal : headAt im p .refusal ≡ 0
-  pub good : headAt im p .good ≡ true
+  pub good : headAt im p .typeable ≡ true
   pub ends : headAt im p .end ≡ end
   pub first : n ≡ 0 → headAt im p .first ≡ true
   pub later : 0 < n → headAt im p .first ≡ false
@@ -39,7 +39,7 @@ pub record HeadIs (im : List ℕ) (n before p end : ℕ) : Type 0 where
 pub record HeadReads (im : List ℕ) (p : ℕ) : Type 0 where
   -- with a good password and a first mark and distance that agree it is a head of the grammar
   pub head :
-      headAt im p .good ≡ true → (n before : ℕ) → (n ≡ 0 → headAt im p .first ≡ true) → (0 < n → headAt im p .first ≡ false) →
+      headAt im p .typeable ≡ true → (n before : ℕ) → (n ≡ 0 → headAt im p .first ≡ true) → (0 < n → headAt im p .first ≡ false) →
       (0 < n → before + headAt im p .back ≡ p) → Head im n before p (headAt im p .end)
   pub last : headAt im p .last ≡ true → isLast im p ≡ 1
   pub more : headAt im p .last ≡ false → isLast im p ≡ 0

@@ -12,10 +12,10 @@ use Rattle.laws.specs.Bytes.{byteAt}
 use Rattle.laws.proofs.Cases.{if-ind, if-true, if-lt, if-le, if-ne, by-test, and-i, and-l, and-r}
 use Rattle.laws.proofs.Tables.{passes}
 use Rattle.field.specs.Formats.{formatOf}
-use Rattle.field.specs.Table.{profileOf, cellOf}
+use Rattle.field.specs.Profiles.{profileOf, cellOf}
 use Rattle.field.specs.Cells.{inRange, inSpan, legal, legalTo, cellsOf, within}
 use Rattle.field.specs.Sheet.{sizeOf}
-use Rattle.field.specs.Settings.{settingsFit, goodSettings}
+use Rattle.field.specs.Settings.{settingsFit, kindFits}
 use Rattle.field.specs.declared.kind.Kind.the-variants.{Integer}
 use Rattle.field.specs.declared.record.Field.{Field}
 use Rattle.cmf.specs.Layouts.{Texts, Component, FixedLayout, code, GoodSettings, editBit, lastBit, fieldAt}
@@ -78,7 +78,7 @@ module _ (im : List ℕ) where
 
   -- every row is laid out by its code and has its field
   row : {at end : ℕ} {fs : List Field} → Component im at end fs → Row at (code im at) end fs
-  unfolding fixedBytes textCount given kindAt defaultPlace sheetPlaceAt profileOf settingsFit goodSettings inRange inSpan legal legalTo cellsOf within cellOf _and_ if_then_else_
+  unfolding fixedBytes textCount given kindAt defaultPlace sheetPlaceAt profileOf settingsFit kindFits inRange inSpan legal legalTo cellsOf within cellOf _and_ if_then_else_
   row (Component.integer k w g) = integer-row _ k w g
   row (Component.counter k w g) = rw k (record { laid = fixed-laid 0x0d (lit≤ tt) refl w refl (g .good); fields = refl })
   row (Component.time-long k w g) = rw k (record { laid = fixed-laid 0x0f (lit≤ tt) refl w refl (g .good); fields = refl })

@@ -10,10 +10,10 @@ use Rattle.laws.specs.Choice.{if_then_else_, _and_}
 use Rattle.laws.specs.Bytes.{byteAt, wordAt}
 use Rattle.laws.specs.Digits.{fromLow, numberFrom}
 use Rattle.laws.specs.Overwrite.{fit}
-use Rattle.field.specs.Table.{profileOf, cellOf}
+use Rattle.field.specs.Profiles.{profileOf, cellOf}
 use Rattle.field.specs.Values.{numberOf}
 use Rattle.field.specs.Cells.{inRange, inSpan, legal, legalTo, cellsOf, within}
-use Rattle.field.specs.Settings.{settingsFit, goodSettings}
+use Rattle.field.specs.Settings.{settingsFit, kindFits}
 use Rattle.field.specs.declared.record.Field.{Field}
 use Rattle.cmf.specs.Layouts.{Texts, Aligned, Component, Components, OptionLayout, GoodSettings, optionAt}
 use Rattle.cmf.specs.Grammar.{WellFormed, Prolog, Password, Head, Line, Lines, TableOver, Table, Every, Apart}
@@ -86,7 +86,7 @@ logs = record {
 
 -- the default of the option is one of its items
 good : GoodSettings (optionAt image 24)
-unfolding settingsFit goodSettings inRange inSpan legal legalTo cellsOf within cellOf profileOf numberOf fromLow numberFrom fit _and_ if_then_else_
+unfolding settingsFit kindFits inRange inSpan legal legalTo cellsOf within cellOf profileOf numberOf fromLow numberFrom fit _and_ if_then_else_
 good = record { good = refl }
 
 items : Texts image 2 34 41 3

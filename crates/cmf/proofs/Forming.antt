@@ -135,7 +135,7 @@ module _ (im : List ℕ) where
         (λ i. HeadView.cut (HeadCut.tag (ltb-false p (length im) i)))
 
     -- a password that is no good
-    pub bad-password : (end : ℕ) → (HeadWrong im p → ⊥) → headRead im p (byteAt im p) end .good ≡ false → (hasPassword im p ≡ 1) × (Digits im (passwordAt im p) → ⊥)
+    pub bad-password : (end : ℕ) → (HeadWrong im p → ⊥) → headRead im p (byteAt im p) end .typeable ≡ false → (hasPassword im p ≡ 1) × (Digits im (passwordAt im p) → ⊥)
     bad-password end r g =
         let l : hasPassword im p ≤ hasSubmenu im p =
         by-test (hasPassword im p ≤? hasSubmenu im p) (λ e. leb-true _ _ e) (λ e. absurd (r (HeadWrong.protects (leb-false (hasPassword im p) (hasSubmenu im p) e)))) in
@@ -144,7 +144,7 @@ module _ (im : List ℕ) where
         (λ e. clash (if-ne (passwords (byteAt im p)) 1 _ _ (eqb-false _ 1 e)) g)
 
     -- and one that is good
-    pub good-password : (end : ℕ) → (HeadWrong im p → ⊥) → headRead im p (byteAt im p) end .good ≡ true → hasPassword im p ≡ 1 → Digits im (passwordAt im p)
+    pub good-password : (end : ℕ) → (HeadWrong im p → ⊥) → headRead im p (byteAt im p) end .typeable ≡ true → hasPassword im p ≡ 1 → Digits im (passwordAt im p)
     good-password end r g w =
         let l : hasPassword im p ≤ hasSubmenu im p =
         by-test (hasPassword im p ≤? hasSubmenu im p) (λ e. leb-true _ _ e) (λ e. absurd (r (HeadWrong.protects (leb-false (hasPassword im p) (hasSubmenu im p) e)))) in

@@ -143,7 +143,7 @@ module _ (im : List ℕ) where
       Sound h = h .refusal ≡ 0 → Found p
 
   -- the password of a head laid out so, if it is a good one
-  laid-password : {p end : ℕ} → Laid p end → headRead im p (byteAt im p) end .good ≡ true → Password im p end
+  laid-password : {p end : ℕ} → Laid p end → headRead im p (byteAt im p) end .typeable ≡ true → Password im p end
   laid-password {p} {end} h good =
       by-test (hasPassword im p =? 1)
       (λ b. let one : hasPassword im p ≡ 1 = eqb-true _ 1 b in
@@ -194,7 +194,7 @@ module _ (im : List ℕ) where
   }
 
   -- a password of the grammar is a good one
-  good : {p end : ℕ} → hasPassword im p ≤ hasSubmenu im p → Password im p end → headRead im p (byteAt im p) end .good ≡ true
+  good : {p end : ℕ} → hasPassword im p ≤ hasSubmenu im p → Password im p end → headRead im p (byteAt im p) end .typeable ≡ true
   good {p} l (Password.none b e) = if-ne (passwords (byteAt im p)) 1 _ _ (λ q. omega (arith, one-password p l))
   good {p} l (Password.some b t d) = if-eq (passwords (byteAt im p)) 1 _ _ (one-password p l ∙ b) ∙ digits-fit im (passwordAt im p) d
 

@@ -2,7 +2,7 @@ pub mod Example
 pub mod Agreement
 pub mod Turning
 pub mod Finding
-pub mod Usual
+pub mod Shortcuts
 pub mod Runs
 pub mod Titles
 pub mod Aligning

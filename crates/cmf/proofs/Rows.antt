@@ -12,12 +12,12 @@ use Rattle.laws.specs.Choice.{if_then_else_, _and_, _=?_, _<?_, _≤?_}
 use Rattle.laws.specs.Bytes.{byteAt, room}
 use Rattle.laws.proofs.Cases.{if-ind, if-true, if-false, if-lt, if-le, if-gt, if-ne, by-test, and-i, and-l, and-r}
 use Rattle.laws.proofs.Rooms.{room-le}
-use Rattle.field.specs.Table.{profileOf, cellOf}
+use Rattle.field.specs.Profiles.{profileOf, cellOf}
 use Rattle.field.specs.Cells.{inRange, inSpan, legal, legalTo, cellsOf, within}
-use Rattle.field.specs.Settings.{settingsFit, goodSettings}
+use Rattle.field.specs.Settings.{settingsFit, kindFits}
 use Rattle.field.specs.declared.record.Field.{Field}
 use Rattle.cmf.specs.Layouts.{code, editBit, GoodSettings}
-use Rattle.cmf.specs.Forms.{Form, Later, Beyond, ComponentCut, ComponentWrong}
+use Rattle.cmf.specs.Forms.{Form, NotCovered, Beyond, ComponentCut, ComponentWrong}
 use Rattle.cmf.specs.Readers.{textsFrom, fixedBytes, textCount, given, kindAt, defaultPlace, sheetPlaceAt, fieldBy, componentRead, laidOut, componentBy, componentAt}
 use Rattle.cmf.specs.declared.text.Run.{Run}
 use Rattle.cmf.specs.declared.component.Component as read
@@ -74,22 +74,22 @@ module _ (im : List ℕ) (at : ℕ) where
     known : c < 0x18 → fixedBytes c e ≡ b → textCount im at c ≡ t → ((r : Run) → given im at c e r ≡ false) → LaterIs b t
     unknown : 0x18 ≤ c → b ≡ 1 → t ≡ 0 → LaterIs b t
 
-  later-is : {b t : ℕ} → Later im at b t → LaterIs b t
+  later-is : {b t : ℕ} → NotCovered im at b t → LaterIs b t
   unfolding fixedBytes textCount given if_then_else_
-  later-is (Later.float l u) =
+  later-is (NotCovered.float l u) =
       LaterIs.known (omega arith)
       (if-gt c 0x04 _ _ (omega arith) ∙ if-gt c 0x0a _ _ (omega arith) ∙ if-le c 0x0c _ _ u)
       (if-lt c 0x13 _ _ (omega arith))
       (λ r. if-gt c 0x0a _ _ (omega arith) ∙ if-ne c 0x0d _ _ (λ q. omega arith) ∙ if-lt c 0x0f _ _ (omega arith))
-  later-is (Later.fcounter k) = LaterIs.known (omega arith) (rw k) (rw k) (λ r. rw k)
-  later-is (Later.variable k b) = LaterIs.known (omega arith) (rw (k, b)) (rw k) (λ r. rw (k, b))
-  later-is (Later.password k) = LaterIs.known (omega arith) (rw k) (rw k) (λ r. rw k)
-  later-is (Later.unknown k) = LaterIs.unknown k refl refl
+  later-is (NotCovered.fcounter k) = LaterIs.known (omega arith) (rw k) (rw k) (λ r. rw k)
+  later-is (NotCovered.variable k b) = LaterIs.known (omega arith) (rw (k, b)) (rw k) (λ r. rw (k, b))
+  later-is (NotCovered.password k) = LaterIs.known (omega arith) (rw k) (rw k) (λ r. rw k)
+  later-is (NotCovered.no-code k) = LaterIs.unknown k refl refl
 
   -- each code has a row
   data Row : Type 0 where
     form : {b t : ℕ} {gs : List Field} → Form im at b t gs → Row
-    later : {b t : ℕ} → Later im at b t → Row
+    later : {b t : ℕ} → NotCovered im at b t → Row
 
   -- a code is a number or above it
   next : (n : ℕ) → n ≤ c → (c ≡ n → Row) → (n + 1 ≤ c → Row) → Row
@@ -97,14 +97,14 @@ module _ (im : List ℕ) (at : ℕ) where
 
   string : c ≡ 0x15 → Row
   string k =
-      by-test (e =? 0) (λ z. Row.form (Form.constant k (eqb-true e 0 z))) (λ z. Row.later (Later.variable k (omega (arith, eqb-false e 0 z))))
+      by-test (e =? 0) (λ z. Row.form (Form.constant k (eqb-true e 0 z))) (λ z. Row.later (NotCovered.variable k (omega (arith, eqb-false e 0 z))))
 
   row : Row
   row =
       by-test (c ≤? 0x0a) (λ q. Row.form (Form.integer (leb-true c 0x0a q)))
-      (λ a. by-test (c ≤? 0x0c) (λ q. Row.later (Later.float (leb-false c 0x0a a) (leb-true c 0x0c q)))
+      (λ a. by-test (c ≤? 0x0c) (λ q. Row.later (NotCovered.float (leb-false c 0x0a a) (leb-true c 0x0c q)))
       (λ b. next 0x0d (leb-false c 0x0c b) (λ k. Row.form (Form.counter k))
-      (λ l. next 0x0e l (λ k. Row.later (Later.fcounter k))
+      (λ l. next 0x0e l (λ k. Row.later (NotCovered.fcounter k))
       (λ l. next 0x0f l (λ k. Row.form (Form.time-long k))
       (λ l. next 0x10 l (λ k. Row.form (Form.time-short k))
       (λ l. next 0x11 l (λ k. Row.form (Form.date-long k))
@@ -112,8 +112,8 @@ module _ (im : List ℕ) (at : ℕ) where
       (λ l. next 0x13 l (λ k. Row.form (Form.switch k))
       (λ l. next 0x14 l (λ k. Row.form (Form.option k))
       (λ l. next 0x15 l string
-      (λ l. next 0x16 l (λ k. Row.later (Later.password k))
-      (λ l. next 0x17 l (λ k. Row.form (Form.trigger k)) (λ l. Row.later (Later.unknown l))))))))))))))
+      (λ l. next 0x16 l (λ k. Row.later (NotCovered.password k))
+      (λ l. next 0x17 l (λ k. Row.form (Form.trigger k)) (λ l. Row.later (NotCovered.no-code l))))))))))))))
 
   -- ---- the texts behind the fixed bytes
 
@@ -223,13 +223,13 @@ module _ (im : List ℕ) (at : ℕ) where
   -- a component is cut, or wrong, or read
   pub data View : read.Component → Type 0 where
     cut : {x : read.Component} → ComponentCut im at → x .refusal ≡ 6 → View x
-    wrong : {x : read.Component} → (ComponentCut im at → ⊥) → ComponentWrong im at → x .refusal ≡ 7 → x .holds ≡ false → View x
+    wrong : {x : read.Component} → (ComponentCut im at → ⊥) → ComponentWrong im at → x .refusal ≡ 7 → x .fielded ≡ false → View x
     plain :
         {x : read.Component} {b t : ℕ} → (ComponentCut im at → ⊥) → (ComponentWrong im at → ⊥) → Form im at b t [] →
-        x .refusal ≡ 0 → x .holds ≡ false → View x
+        x .refusal ≡ 0 → x .fielded ≡ false → View x
     field :
         {x : read.Component} {b t : ℕ} {f : Field} → (ComponentCut im at → ⊥) → (ComponentWrong im at → ⊥) → Form im at b t (f ∷ []) →
-        x .field ≡ f → x .holds ≡ true → Settings f (x .refusal) → View x
+        x .field ≡ f → x .fielded ≡ true → Settings f (x .refusal) → View x
 
   -- the field of a form is the reader's
   held : (end : ℕ) {b t : ℕ} {f : Field} → (ComponentCut im at → ⊥) → (ComponentWrong im at → ⊥) → Form im at b t (f ∷ []) → View (componentRead im at c (byteAt im at) end)
@@ -243,7 +243,7 @@ module _ (im : List ℕ) (at : ℕ) where
 
   -- one that is not wrong has a form
   formed : (end : ℕ) {b t : ℕ} {gs : List Field} → (ComponentCut im at → ⊥) → (ComponentWrong im at → ⊥) → Form im at b t gs → View (componentRead im at c (byteAt im at) end)
-  unfolding kindAt defaultPlace profileOf settingsFit goodSettings inRange inSpan legal legalTo cellsOf within cellOf _and_ if_then_else_
+  unfolding kindAt defaultPlace profileOf settingsFit kindFits inRange inSpan legal legalTo cellsOf within cellOf _and_ if_then_else_
   formed end u r (Form.integer k) = held end u r (Form.integer k)
   formed end u r (Form.counter k) = held end u r (Form.counter k)
   formed end u r (Form.time-long k) = held end u r (Form.time-long k)
@@ -278,5 +278,5 @@ module _ (im : List ℕ) (at : ℕ) where
       if-ind View (at <? length im)
       (λ i. let h = ltb-true at (length im) i in
       if-ind View (c <? 0x18) (λ k. laid-view h (ltb-true c 0x18 k))
-      (λ k. let l = ltb-false c 0x18 k in View.wrong (tagged h l) (ComponentWrong.later (Later.unknown l)) refl refl))
+      (λ k. let l = ltb-false c 0x18 k in View.wrong (tagged h l) (ComponentWrong.later (NotCovered.no-code l)) refl refl))
       (λ i. View.cut (out-cut (ltb-false at (length im) i)) refl)

@@ -54,16 +54,16 @@ pub record FieldIs (im : List ℕ) (at : ℕ) (f : Field) : Type 0 where
   pub form : Form im at bytes texts (f ∷ [])
 
 -- the forms that 01 leaves for later, with their bytes and texts by section 7; R4, R14: a code that section 7 does not give has its tag alone
-pub data Later (im : List ℕ) (at : ℕ) : (bytes texts : ℕ) → Type 0 where
+pub data NotCovered (im : List ℕ) (at : ℕ) : (bytes texts : ℕ) → Type 0 where
   -- 7.5.12, 7.5.13: update:1 call-addr:2 var-addr:2 default:4
-  float : 0x0b ≤ code im at → code im at ≤ 0x0c → Later im at 10 0
+  float : 0x0b ≤ code im at → code im at ≤ 0x0c → NotCovered im at 10 0
   -- 7.5.15: update:1 call-addr:2 var-addr:2 min:4 max:4 step:4 default:4 field-width:1
-  fcounter : code im at ≡ 0x0e → Later im at 23 0
+  fcounter : code im at ≡ 0x0e → NotCovered im at 23 0
   -- 7.5.22, read-write, R3: update:1 call-addr:2 var-addr:2 string:n+1
-  variable : code im at ≡ 0x15 → editBit im at ≡ 1 → Later im at 6 1
+  variable : code im at ≡ 0x15 → editBit im at ≡ 1 → NotCovered im at 6 1
   -- 7.5.23, R3: update:1 call-addr:2 string:n+1
-  password : code im at ≡ 0x16 → Later im at 4 1
-  unknown : 0x18 ≤ code im at → Later im at 1 0
+  password : code im at ≡ 0x16 → NotCovered im at 4 1
+  no-code : 0x18 ≤ code im at → NotCovered im at 1 0
 
 -- so many bytes from a place on, and so many texts behind them, are not all in the image
 pub data Beyond (im : List ℕ) (at bytes texts : ℕ) : Type 0 where
@@ -73,12 +73,12 @@ pub data Beyond (im : List ℕ) (at bytes texts : ℕ) : Type 0 where
 -- 01, row 6, R13, R14, R17: the component at a place needs a byte beyond the image, a form left for later too
 pub data ComponentCut (im : List ℕ) (at : ℕ) : Type 0 where
   form : {bytes texts : ℕ} {fs : List Field} → Form im at bytes texts fs → Beyond im at bytes texts → ComponentCut im at
-  later : {bytes texts : ℕ} → Later im at bytes texts → Beyond im at bytes texts → ComponentCut im at
+  later : {bytes texts : ℕ} → NotCovered im at bytes texts → Beyond im at bytes texts → ComponentCut im at
 
 -- 01, row 7: the component at a place is a form left for later or has no form; R16: or its length is not its size, or an option's field-width
 -- not the length of its longest item
 pub data ComponentWrong (im : List ℕ) (at : ℕ) : Type 0 where
-  later : {bytes texts : ℕ} → Later im at bytes texts → ComponentWrong im at
+  later : {bytes texts : ℕ} → NotCovered im at bytes texts → ComponentWrong im at
   switch-length :
       {end longest : ℕ} → code im at ≡ 0x13 → Texts im (byteAt im (at + 7)) (at + 14) end longest →
       (end ≡ at + byteAt im (at + 6) → ⊥) → ComponentWrong im at

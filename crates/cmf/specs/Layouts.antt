@@ -7,7 +7,7 @@ use mathlib.Core.List.{List, [], _∷_, _++_}
 use lib.ListN.{length}
 use Rattle.laws.specs.Bytes.{byteAt, wordAt}
 use Rattle.field.specs.Formats.{formatOf}
-use Rattle.field.specs.Table.{profileOf}
+use Rattle.field.specs.Profiles.{profileOf}
 use Rattle.field.specs.Values.{valueOf, valueAt}
 use Rattle.field.specs.Cells.{biased}
 use Rattle.field.specs.Settings.{settingsFit}

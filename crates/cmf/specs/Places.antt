@@ -70,7 +70,7 @@ nextEditable im p =
 
 -- the field of a component that is one
 abbrev pub heldBy : Component → List Field
-heldBy c = if c .holds then c .field ∷ [] else []
+heldBy c = if c .fielded then c .field ∷ [] else []
 
 -- ---- the walk of 01, Refusal numbers: depth first, lines in order, a line's components before its submenu
 

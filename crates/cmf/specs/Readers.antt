@@ -10,7 +10,7 @@ use Rattle.laws.specs.Choice.{if_then_else_, _and_, _=?_, _<?_, _≤?_}
 use Rattle.laws.specs.Bytes.{byteAt, wordAt, room}
 use Rattle.laws.specs.Parts.{partAt}
 use Rattle.field.specs.Formats.{formatOf}
-use Rattle.field.specs.Table.{profileOf}
+use Rattle.field.specs.Profiles.{profileOf}
 use Rattle.field.specs.Values.{valueAt}
 use Rattle.field.specs.Cells.{biased}
 use Rattle.field.specs.Settings.{settingsFit}
@@ -27,7 +27,7 @@ use Rattle.cmf.specs.declared.component.Component.{Component}
 
 -- 7.3: delay-to-top and delay-password in the prolog
 unfoldable pub imageOf : List ℕ → Image
-imageOf im = record { top = byteAt im 5; entry = byteAt im 7 }
+imageOf im = record { delays = record { top = byteAt im 5; password = byteAt im 7 } }
 
 -- R6: the first odd place at or after a place, and the first even one
 abbrev pub oddFrom : ℕ → ℕ
@@ -93,7 +93,7 @@ titleAt im at = titleBy at (textsFrom im 1 at 0)
 abbrev pub headRefused : ℕ → ℕ → Head
 headRefused p k = record {
   refusal = k;
-  good = true;
+  typeable = true;
   first = false;
   last = true;
   submenu = false;
@@ -124,7 +124,7 @@ passwords tag = tagBit 8 tag * tagBit 16 tag
 abbrev pub headRead : List ℕ → ℕ → ℕ → ℕ → Head
 headRead im p tag end = record {
   refusal = 0;
-  good = if passwords tag =? 1 then passwordFits im (optionsEnd p tag) else true;
+  typeable = if passwords tag =? 1 then passwordFits im (optionsEnd p tag) else true;
   first = tagBit 1 tag =? 1;
   last = tagBit 2 tag =? 1;
   submenu = tagBit 8 tag =? 1;
@@ -237,7 +237,7 @@ componentRefused im at k = record {
   refusal = k;
   last = true;
   editable = false;
-  holds = false;
+  fielded = false;
   field = fieldBy im at 0x17;
   end = at;
   next = at;
@@ -249,7 +249,7 @@ componentRead im at code tag end = record {
   refusal = if settingsFit (kindAt im at code) (fieldBy im at code .default) then 0 else 9;
   last = tagBit 128 tag =? 1;
   editable = if code =? 0x17 then true else tagBit 32 tag =? 1;
-  holds = if code =? 0x15 then false else true;
+  fielded = if code =? 0x15 then false else true;
   field = fieldBy im at code;
   end = end;
   next = evenFrom end;

@@ -14,12 +14,12 @@ use laws::byte_at;
 use laws::room;
 use laws::word_at;
 
-// refusal: 0, or 6 or 7. good: its password, if it has one, is one. first, last: of its table. back: the distance from the line before.
+// refusal: 0, or 6 or 7. typeable: its password, if it has one, is of 1 to 8 digits. first, last: of its table. back: the distance from the line before.
 // next, table, password, component: the places of the next line, of the submenu's table, of the password, of the first component;
 // without meaning if it has none.
 pub struct Head {
     pub refusal: u8,
-    pub good: bool,
+    pub typeable: bool,
     pub first: bool,
     pub last: bool,
     pub submenu: bool,
@@ -42,7 +42,7 @@ impl Head {
     {
         Head {
             refusal: code,
-            good: true,
+            typeable: true,
             first: false,
             last: true,
             submenu: false,
@@ -80,7 +80,7 @@ impl Options {
     }
 }
 
-fn is_good(image: &[u8], protected: bool, at: usize) -> bool
+fn is_typeable(image: &[u8], protected: bool, at: usize) -> bool
     ensures { λ r. ⌜ r ≡ if protected then passwordFits (now (image .entry)) at else true ⌝ }
 {
     if protected {
@@ -98,13 +98,13 @@ fn head_read(image: &[u8], p: usize, tag: u8, end: usize) -> Head
     let options = Options::of_tag(tag);
     let password = p + options.end;
     let protected = (t / 8 % 2) * (t / 16 % 2) == 1;
-    let good = is_good(image, protected, password);
+    let typeable = is_typeable(image, protected, password);
     let a = word_at(image, p + 1) as usize;
     let b = word_at(image, p + options.back) as usize;
     let d = word_at(image, p + options.submenu) as usize;
     Head {
         refusal: 0,
-        good,
+        typeable,
         first: t % 2 == 1,
         last: t / 2 % 2 == 1,
         submenu: t / 8 % 2 == 1,
@@ -162,7 +162,7 @@ fn short_head(image: &[u8], p: usize, tag: u8) -> Head
     let end = p + options.end;
     Head {
         refusal: 0,
-        good: true,
+        typeable: true,
         first: t % 2 == 1,
         last: t / 2 % 2 == 1,
         submenu: t / 8 % 2 == 1,

@@ -6,10 +6,16 @@ ghost use Rattle.laws.specs.Bytes.{wordAt};
 ghost use Rattle.cmf.specs.Readers.{imageOf};
 use laws::byte_at;
 
-// The prolog's delays that a session asks for, in seconds, 0 for never: delay-to-top, and delay-password, which ends an entry.
-pub struct Image {
+// The prolog's delays that a session asks for, in seconds, 0 for never: delay-to-top, and delay-password, which ends
+// a password entry.
+pub struct Delays {
     pub top: u8,
-    pub entry: u8,
+    pub password: u8,
+}
+
+// What an image says of itself as a whole.
+pub struct Image {
+    pub delays: Delays,
 }
 
 impl Image {
@@ -36,8 +42,10 @@ impl Image {
         ensures { λ r. ⌜ r ≡ imageOf (now (image .entry)) ⌝ }
     {
         Image {
-            top: byte_at(image, 5),
-            entry: byte_at(image, 7),
+            delays: Delays {
+                top: byte_at(image, 5),
+                password: byte_at(image, 7),
+            },
         }
     }
 }

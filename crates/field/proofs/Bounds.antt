@@ -9,7 +9,7 @@ use borrow.Author.Tests.{ltb-true}
 use Rattle.laws.specs.Choice.{if_then_else_, _<?_}
 use Rattle.laws.proofs.Cases.{if-ind, if-max, if-min}
 use Rattle.field.specs.Formats.{signsOf, digitsIn, baseOf, limitOf, halfOf, topOf, numeralOf, bitsIn, bitsOf}
-use Rattle.field.specs.Table.{profileOf}
+use Rattle.field.specs.Profiles.{profileOf}
 use Rattle.field.specs.Sound.{Sound}
 use Rattle.field.specs.declared.kind.Format.{Format}
 use Rattle.field.specs.declared.kind.Kind.{Kind}

@@ -4,7 +4,7 @@ use native.Mathlib.Omega.{arith}
 use borrow.Author.Tests.{ltb-true, ltb-false}
 use Rattle.laws.specs.Choice.{if_then_else_, _<?_}
 use Rattle.laws.proofs.Cases.{if-ind}
-use Rattle.field.specs.Settings.{places}
+use Rattle.field.specs.Settings.{digitCount}
 
 -- n digits show x, and fewer do not: 0 has one digit
 pub record Shows (x n : ℕ) : Type 0 where
@@ -15,8 +15,8 @@ module _ (x : ℕ) (h : x < 100000) where
   next : (m k : ℕ) {y : ℕ} → (x < m → Shows x k) → (m ≤ x → Shows x y) → Shows x (if x <? m then k else y)
   next m k f g = if-ind (λ (n : ℕ). Shows x n) (x <? m) (λ e. f (ltb-true x m e)) (λ e. g (ltb-false x m e))
 
-  pub places-right : Shows x (places x)
-  unfolding places
+  pub places-right : Shows x (digitCount x)
+  unfolding digitCount
   places-right =
       next 10 1 (λ b. record { enough = omega arith; least = λ l. absurd (omega arith) })
       (λ a. next 100 2 (λ b. record { enough = omega arith; least = λ l. omega arith })

@@ -16,14 +16,14 @@ use Rattle.laws.specs.Digits.{fromLow}
 use Rattle.laws.proofs.Cases.{if-ind, if-true, if-false, if-eq, by-test, and-i}
 use Rattle.laws.proofs.Numerals.{Below, below-all, number-below, number-of-low}
 use Rattle.field.specs.Formats.{numeralOf, bitsIn, bitsOf}
-use Rattle.field.specs.Table.{profileOf, cellOf}
+use Rattle.field.specs.Profiles.{profileOf, cellOf}
 use Rattle.field.specs.Values.{numberOf}
 use Rattle.field.specs.Cells.{spans, shownBy, minus, storable, ofDigits, cellsOf, storedIn, inSpan, stores, legal, inRange, finished}
 use Rattle.field.specs.Sound.{Sound}
 use Rattle.field.specs.declared.numeral.Numeral.{Numeral}
 use Rattle.field.specs.declared.kind.Kind.{Kind}
 use Rattle.field.specs.declared.kind.Kind.the-variants.{Integer, Counter, Time, Date, Switch, Option, Trigger}
-use Rattle.field.specs.declared.table.Cell.{Cell}
+use Rattle.field.specs.declared.profile.Cell.{Cell}
 use Rattle.field.specs.declared.work.Work.{Work}
 use Rattle.field.proofs.Bounds.{format-sound, bits-sound, limit-bytes}
 use Rattle.field.proofs.Legal.{LegalCells, legal-bool, same-legal}

@@ -10,15 +10,15 @@ use Rattle.laws.specs.Bytes.{byteAt, wordAt}
 use Rattle.laws.specs.Digits.{fromLow, numberFrom}
 use Rattle.laws.proofs.Cases.{if-ind, if-le, by-test, and-i}
 use Rattle.field.specs.Formats.{numeralOf, bitsIn, bitsOf}
-use Rattle.field.specs.Table.{cellOf}
+use Rattle.field.specs.Profiles.{cellOf}
 use Rattle.field.specs.Cells.{spans, within, inRange}
-use Rattle.field.specs.Settings.{stepFits, widthFits, goodSettings, settingsFit}
+use Rattle.field.specs.Settings.{stepFits, widthFits, kindFits, settingsFit}
 use Rattle.field.specs.Values.{numberOf, valueAt}
 use Rattle.field.specs.declared.kind.Format.{Format}
 use Rattle.field.specs.declared.kind.Kind.the-variants.{Integer, Counter, Time, Date, Switch}
 use Rattle.field.specs.declared.kind.CounterSettings.{CounterSettings}
 use Rattle.field.specs.declared.numeral.Numeral.{Numeral}
-use Rattle.field.specs.declared.table.Cell.{Cell}
+use Rattle.field.specs.declared.profile.Cell.{Cell}
 use Rattle.field.specs.declared.value.Value.{Value}
 use Rattle.field.proofs.Padded.{part-four}
 use Rattle.field.proofs.Ranges.{range-of-integer, range-of-time, range-of-date, range-of-switch}
@@ -46,7 +46,7 @@ unfolding spans
 spans-above n x h = if-le x (n .above) _ _ h
 
 pub integer-fits : (f : Format) (v : Value) → spans (numeralOf f) (numberOf v) ≡ true → settingsFit (Integer f) v ≡ true
-unfolding settingsFit goodSettings _and_
+unfolding settingsFit kindFits _and_
 integer-fits f v h = range-of-integer f (numberOf v) ∙ h
 
 -- ---- counters, times and dates
@@ -54,7 +54,7 @@ integer-fits f v h = range-of-integer f (numberOf v) ∙ h
 pub counter-fits :
     (s : CounterSettings) (v : Value) → stepFits s ≡ true → widthFits s ≡ true → inRange (Counter s) (numberOf v) ≡ true →
     settingsFit (Counter s) v ≡ true
-unfolding settingsFit goodSettings
+unfolding settingsFit kindFits
 counter-fits s v a b r = and-i (and-i a b) r
 
 -- a number between the ends of a cell
@@ -65,7 +65,7 @@ within-ends c l h = and-i (le-leb _ _ l) (le-leb _ _ h)
 pub time-fits :
     (long : Bool) (v : Value) → numberOf v % 256 ≤ 23 → numberOf v / 256 % 256 ≤ 59 → (if long then numberOf v / 65536 % 256 else 0) ≤ 59 →
     settingsFit (Time long) v ≡ true
-unfolding settingsFit goodSettings cellOf _and_ if_then_else_
+unfolding settingsFit kindFits cellOf _and_ if_then_else_
 time-fits long v h m s =
     let k = Time long in
     range-of-time long (numberOf v)
@@ -74,7 +74,7 @@ time-fits long v h m s =
 pub date-fits :
     (long : Bool) (v : Value) → numberOf v / 65536 ≤ (if long then 9999 else 99) → 1 ≤ numberOf v / 256 % 256 → numberOf v / 256 % 256 ≤ 12 →
     1 ≤ numberOf v % 256 → numberOf v % 256 ≤ 31 → settingsFit (Date long) v ≡ true
-unfolding settingsFit goodSettings cellOf _and_ if_then_else_
+unfolding settingsFit kindFits cellOf _and_ if_then_else_
 date-fits long v y m n d e =
     let k = Date long in
     range-of-date long (numberOf v)
@@ -87,7 +87,7 @@ unfolding bitsIn
 few-bits n h = if-ind (λ (x : ℕ). x ≡ n) (n <? 32) (λ _. refl) (λ e. let q = ltb-false n 32 e in omega arith)
 
 pub switch-fits : (n : ℕ) (v : Value) → 1 ≤ n → n ≤ 32 → numberOf v < 2 ^ n → settingsFit (Switch n) v ≡ true
-unfolding settingsFit goodSettings
+unfolding settingsFit kindFits
 switch-fits n v a b h =
     let e = few-bits n b in
     and-i (and-i (le-leb 1 n a) (le-leb n 32 b)) (range-of-switch n (numberOf v) ∙ spans-above (bitsOf n) (numberOf v) (rw e (omega arith)))

@@ -14,14 +14,14 @@ use Rattle.laws.proofs.Cases.{if-ind, if-max, if-ne, if-lt, if-ge, and-second}
 use Rattle.laws.proofs.Lists.{getD-left, getD-right}
 use Rattle.laws.proofs.Numerals.{length-digits, digit-below}
 use Rattle.field.specs.Formats.{formatOf, signsOf, digitsIn, baseOf, limitOf, halfOf, topOf, numeralOf, bitsIn, bitsOf}
-use Rattle.field.specs.Table.{profileOf, cellOf, flag, digit}
+use Rattle.field.specs.Profiles.{profileOf, cellOf, flag, digit}
 use Rattle.field.specs.Cells.{biased, spans, distance, signOf, inDigits, cellsOf, inSpan, within, legalTo, legal, inRange}
 use Rattle.field.specs.Sound.{Sound}
 use Rattle.field.specs.declared.numeral.Numeral.{Numeral}
 use Rattle.field.specs.declared.kind.Format.{Format}
 use Rattle.field.specs.declared.kind.Kind.the-variants.{Integer, Counter, Time, Date, Switch, Option, Trigger}
 use Rattle.field.specs.declared.kind.CounterSettings.{CounterSettings}
-use Rattle.field.specs.declared.table.Cell.{Cell}
+use Rattle.field.specs.declared.profile.Cell.{Cell}
 use Rattle.field.proofs.Bounds.{base-ge, format-sound, bits-sound}
 use Rattle.field.proofs.Legal.{Within, LegalCells, legal-bool}
 

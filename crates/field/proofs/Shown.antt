@@ -13,7 +13,7 @@ use Rattle.laws.specs.Digits.{digitsOf}
 use Rattle.laws.proofs.Cases.{if-false, if-eq, if-ne, by-test, and-l, and-r, and-second}
 use Rattle.laws.proofs.Numerals.{digits-of-number}
 use Rattle.field.specs.Formats.{numeralOf, bitsOf}
-use Rattle.field.specs.Table.{profileOf}
+use Rattle.field.specs.Profiles.{profileOf}
 use Rattle.field.specs.Cells.{distance, signOf, inDigits, shownBy, minus, storable, ofDigits, cellsOf, storedIn, stores, workOf}
 use Rattle.field.specs.Sound.{Sound}
 use Rattle.field.specs.declared.numeral.Numeral.{Numeral}

@@ -17,7 +17,7 @@ use Rattle.laws.proofs.Lists.{drop-take}
 use Rattle.laws.proofs.Overwriting.{fit-at, take-fit}
 use Rattle.laws.proofs.Numerals.{number-of-digits, Below, length-low, low-of-number, low-below}
 use Rattle.field.specs.Formats.{numeralOf, bitsOf}
-use Rattle.field.specs.Table.{profileOf}
+use Rattle.field.specs.Profiles.{profileOf}
 use Rattle.field.specs.Values.{bytesOf, valueOf, numberOf, valueFrom}
 use Rattle.field.specs.Cells.{spans, distance, signOf, inDigits, shownBy, minus, storable, ofDigits, cellsOf, storedIn, inSpan, stores, inRange, workOf, started, finished}
 use Rattle.field.specs.Sound.{Sound}

@@ -8,12 +8,12 @@ use Rattle.laws.specs.Parts.{partAt}
 use Rattle.laws.specs.Overwrite.{fit}
 use Rattle.laws.specs.Digits.{digitsOf, numberFrom}
 use Rattle.field.specs.Formats.{maxBits, numeralOf, bitsOf}
-use Rattle.field.specs.Table.{profileOf, cellOf}
+use Rattle.field.specs.Profiles.{profileOf, cellOf}
 use Rattle.field.specs.Values.{numberOf, valueFrom}
 use Rattle.field.specs.declared.numeral.Numeral.{Numeral}
 use Rattle.field.specs.declared.kind.Kind.{Kind}
 use Rattle.field.specs.declared.kind.Kind.the-variants.{Integer, Counter, Time, Date, Switch, Option, Trigger}
-use Rattle.field.specs.declared.table.Cell.{Cell}
+use Rattle.field.specs.declared.profile.Cell.{Cell}
 use Rattle.field.specs.declared.work.Work.{Work}
 use Rattle.field.specs.declared.value.Value.{Value}
 

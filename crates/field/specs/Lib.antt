@@ -1,5 +1,5 @@
 pub mod Formats
-pub mod Table
+pub mod Profiles
 pub mod Values
 pub mod Cells
 pub mod Sound

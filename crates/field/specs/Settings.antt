@@ -11,12 +11,12 @@ use Rattle.field.specs.declared.kind.CounterSettings.{CounterSettings}
 use Rattle.field.specs.declared.value.Value.{Value}
 
 -- how many decimal digits a number of at most five digits has
-unfoldable pub places : ℕ → ℕ
-places x = if x <? 10 then 1 else if x <? 100 then 2 else if x <? 1000 then 3 else if x <? 10000 then 4 else 5
+unfoldable pub digitCount : ℕ → ℕ
+digitCount x = if x <? 10 then 1 else if x <? 100 then 2 else if x <? 1000 then 3 else if x <? 10000 then 4 else 5
 
 -- the cells of a counter's biased number; 01, Fields: '-' only below 0
 unfoldable pub countedCells : ℕ → ℕ
-countedCells x = if x <? 32768 then 1 + places (32768 - x) else places (x - 32768)
+countedCells x = if x <? 32768 then 1 + digitCount (32768 - x) else digitCount (x - 32768)
 
 -- 01, Fields: a counter's step is at least 1, as a signed number
 unfoldable pub stepFits : CounterSettings → Bool
@@ -27,15 +27,15 @@ unfoldable pub widthFits : CounterSettings → Bool
 widthFits s = (countedCells (s .min) ≤? s .width) and (countedCells (s .max) ≤? s .width)
 
 -- 01, Fields: a switch has from one bit to as many as it stores; an option has 1 to 255 items, and its count is one byte
-unfoldable pub goodSettings : Kind → Bool
-goodSettings (Integer f) = true
-goodSettings (Counter s) = stepFits s and widthFits s
-goodSettings (Time long) = true
-goodSettings (Date long) = true
-goodSettings (Switch n) = (1 ≤? n) and (n ≤? maxBits)
-goodSettings (Option n w) = 1 ≤? n
-goodSettings Trigger = true
+unfoldable pub kindFits : Kind → Bool
+kindFits (Integer f) = true
+kindFits (Counter s) = stepFits s and widthFits s
+kindFits (Time long) = true
+kindFits (Date long) = true
+kindFits (Switch n) = (1 ≤? n) and (n ≤? maxBits)
+kindFits (Option n w) = 1 ≤? n
+kindFits Trigger = true
 
 -- good settings, and a default in range; a counter's default in range gives min <= default <= max
 unfoldable pub settingsFit : Kind → Value → Bool
-settingsFit k d = goodSettings k and inRange k (numberOf d)
+settingsFit k d = kindFits k and inRange k (numberOf d)

@@ -2,7 +2,7 @@
 use Prim.Native.Nat.{ℕ}
 use mathlib.Core.List.{List}
 use Rattle.laws.specs.Parts.{partAt, putAt}
-use Rattle.field.specs.Table.{profileOf}
+use Rattle.field.specs.Profiles.{profileOf}
 use Rattle.field.specs.Values.{bytesOf, valueOf}
 use Rattle.field.specs.Cells.{started, finished}
 use Rattle.field.specs.declared.record.Field.{Field}

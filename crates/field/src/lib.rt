@@ -1,8 +1,8 @@
 // What a field of a menu image is, without the image: kinds and settings, ranges, the cells of a visit, bytes in the sheet.
 pub mod kind;
 pub mod numeral;
+pub mod profile;
 pub mod record;
 pub mod settings;
-pub mod table;
 pub mod value;
 pub mod work;

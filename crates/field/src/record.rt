@@ -4,7 +4,7 @@ ghost use Rattle.field.specs.Sheet.{defaultWritten, begun, finishedIn};
 use crate::kind::ImagePlace;
 use crate::kind::Kind;
 use crate::kind::SheetPlace;
-use crate::table::profile_of;
+use crate::profile::profile_of;
 use crate::value::Value;
 use crate::value::load;
 use crate::value::put;

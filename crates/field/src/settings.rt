@@ -1,15 +1,15 @@
 // Whether the settings that an image gives a field are good: what refusal 9 asks.
 ghost use mathlib.Core.Path.{_≡_};
 ghost use Prim.Native.Nat.{_≤_};
-ghost use Rattle.field.specs.Settings.{places, countedCells, stepFits, widthFits, goodSettings, settingsFit};
+ghost use Rattle.field.specs.Settings.{digitCount, countedCells, stepFits, widthFits, kindFits, settingsFit};
 use crate::kind::CounterSettings;
 use crate::kind::Kind;
 use crate::value::Value;
 use crate::work::in_range;
 
 // How many decimal digits a number of at most five has.
-pub fn places(x: u64) -> u8
-    ensures { λ r. ⌜ (r ≡ places x) × (r ≤ 5) ⌝ }
+pub fn digit_count(x: u64) -> u8
+    ensures { λ r. ⌜ (r ≡ digitCount x) × (r ≤ 5) ⌝ }
 {
     if x < 10 {
         return 1;
@@ -31,9 +31,9 @@ pub fn counted_cells(x: u16) -> u8
     ensures { λ r. ⌜ r ≡ countedCells x ⌝ }
 {
     if x < 32768 {
-        return 1 + places((32768 - x) as u64);
+        return 1 + digit_count((32768 - x) as u64);
     }
-    places((x - 32768) as u64)
+    digit_count((x - 32768) as u64)
 }
 
 fn step_fits(s: CounterSettings) -> bool
@@ -56,8 +56,8 @@ fn width_fits(s: CounterSettings) -> bool
     false
 }
 
-fn good_settings(kind: Kind) -> bool
-    ensures { λ r. ⌜ r ≡ goodSettings kind ⌝ }
+fn kind_fits(kind: Kind) -> bool
+    ensures { λ r. ⌜ r ≡ kindFits kind ⌝ }
 {
     match kind {
         Kind::Integer(_) => true,
@@ -84,7 +84,7 @@ fn good_settings(kind: Kind) -> bool
 pub fn settings_fit(kind: Kind, default: Value) -> bool
     ensures { λ r. ⌜ r ≡ settingsFit kind default ⌝ }
 {
-    if good_settings(kind) {
+    if kind_fits(kind) {
         return in_range(kind, default.number());
     }
     false

@@ -4,13 +4,13 @@ ghost use mathlib.Core.List.{[], _∷_};
 ghost use Prim.Native.Nat.{_*_, _/_, _%_, _<_};
 ghost use lib.ListN.{getD};
 ghost use Rattle.laws.specs.Choice.{if_then_else_, _and_};
-ghost use Rattle.field.specs.Table.{cellOf};
+ghost use Rattle.field.specs.Profiles.{cellOf};
 ghost use Rattle.field.specs.Cells.{biased, cellsOf, storedIn, stores, within, legal, inRange, workOf, started, finished};
 use crate::kind::Kind;
 use crate::numeral::Numeral;
-use crate::table::Cell;
-use crate::table::cell_of;
-use crate::table::profile_of;
+use crate::profile::Cell;
+use crate::profile::cell_of;
+use crate::profile::profile_of;
 use crate::value::Value;
 
 // The cells of a visit (a visit is the paper's term for one editing of a field), and the chosen cell.

@@ -22,11 +22,11 @@ written-join [] gs s = refl
 written-join (f ∷ fs) gs s = written-join fs gs _
 
 -- a component's, if it is a field
-pub held-written : (c : Component) (s : List ℕ) {t : List ℕ} → c .holds ≡ true → t ≡ defaultWritten (c .field) s → t ≡ defaultsWritten (heldBy c) s
+pub held-written : (c : Component) (s : List ℕ) {t : List ℕ} → c .fielded ≡ true → t ≡ defaultWritten (c .field) s → t ≡ defaultsWritten (heldBy c) s
 unfolding defaultsWritten if_then_else_
 held-written c s h e = e ∙ rw h
 
-pub none-written : (c : Component) {s : List ℕ} → c .holds ≡ false → s ≡ defaultsWritten (heldBy c) s
+pub none-written : (c : Component) {s : List ℕ} → c .fielded ≡ false → s ≡ defaultsWritten (heldBy c) s
 unfolding defaultsWritten if_then_else_
 none-written c h = rw h
 

@@ -13,7 +13,7 @@ use Rattle.cmf.specs.Readers.{itemPlace, componentAt}
 use Rattle.acceptance.specs.Check.{State, checked, refusalOf}
 use Rattle.acceptance.specs.Index.{entryAt, listed}
 use Rattle.acceptance.specs.declared.index.Entry.{Entry}
-use Rattle.acceptance.specs.declared.state.Walk.{Walk}
+use Rattle.acceptance.specs.declared.progress.Progress.{Progress}
 use Rattle.handset.proofs.Ordering.{first-given}
 use Rattle.handset.specs.Refusals.{_before_, _unless_}
 use Rattle.handset.specs.OptionText.{reached, itemsIn, textRefusal, textAt, textPlace, optionText}
@@ -62,12 +62,12 @@ still-none p xs i h n = let z : i + 1 ≡ suc i = omega arith in rw z (not-yet p
 -- the refusal by the state that the check came to
 pub refusal-is : (im : List ℕ) (sheet place item : ℕ) (s : State) → s ≡ checked im sheet
     → textRefusal im sheet place item
-    ≡ s .walk .refusal before (14 unless (reached place (s .fields) and (item <? itemsIn (componentAt im place .field .kind))))
+    ≡ s .progress .refusal before (14 unless (reached place (s .fields) and (item <? itemsIn (componentAt im place .field .kind))))
 unfolding textRefusal refusalOf
 refusal-is im sheet place item s e = rw e
 
 -- a bad image
-pub refusal-bad : (im : List ℕ) (sheet place item : ℕ) (w : Walk) → w ≡ checked im sheet .walk → (w .refusal ≡ 0 → ⊥) → w .refusal ≡ textRefusal im sheet place item
+pub refusal-bad : (im : List ℕ) (sheet place item : ℕ) (w : Progress) → w ≡ checked im sheet .progress → (w .refusal ≡ 0 → ⊥) → w .refusal ≡ textRefusal im sheet place item
 unfolding textRefusal refusalOf
 refusal-bad im sheet place item w e h = rw e (sym (first-given _ _ (rw e at h)))
 

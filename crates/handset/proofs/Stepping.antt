@@ -9,7 +9,7 @@ use Prim.Native.Nat.{_≤_}
 use Rattle.laws.specs.Choice.{_≤?_}
 use Rattle.laws.proofs.Cases.{if-eq, if-ne}
 use Rattle.session.specs.Events.{second}
-use Rattle.session.specs.Event.{stepOf, sheetOf}
+use Rattle.session.specs.Step.{stepOf, sheetOf}
 use Rattle.session.specs.declared.session.Session.{Session}
 use Rattle.handset.specs.Refusals.{_before_, _unless_, sessionRefusal}
 use Rattle.handset.specs.Event.{eventRefusal, refusedWith, eventStep, eventSheet}

@@ -4,11 +4,11 @@ use mathlib.Core.List.{List}
 use lib.ListN.{length}
 use Rattle.laws.specs.Choice.{if_then_else_, _=?_, _≤?_}
 use Rattle.session.specs.Events.{second}
-use Rattle.session.specs.Steps.{told}
-use Rattle.session.specs.Event.{stepOf, sheetOf}
+use Rattle.session.specs.Answers.{answerNumber}
+use Rattle.session.specs.Step.{stepOf, sheetOf}
 use Rattle.session.specs.declared.session.Session.{Session}
-use Rattle.session.specs.declared.step.Answer.the-variants as answer
-use Rattle.session.specs.declared.step.Stepped.{Stepped}
+use Rattle.session.specs.declared.answer.Answer.the-variants as answer
+use Rattle.session.specs.declared.answer.Stepped.{Stepped}
 use Rattle.handset.specs.Refusals.{_before_, _unless_, sessionRefusal}
 
 -- 01, Refusal numbers: 2 to 12, then 13 for an event above the last, which is a second
@@ -25,8 +25,8 @@ eventStep im sheet s e =
     if eventRefusal im (length sheet) s e =? 0 then stepOf im sheet s e else refusedWith s (eventRefusal im (length sheet) s e)
 
 -- the answer by its number and values
-unfoldable pub eventTold : List ℕ → List ℕ → Session → ℕ → ℕ
-eventTold im sheet s e = told (eventStep im sheet s e .answer)
+unfoldable pub eventAnswer : List ℕ → List ℕ → Session → ℕ → ℕ
+eventAnswer im sheet s e = answerNumber (eventStep im sheet s e .answer)
 
 -- the sheet after Event: a refused Event alters no byte
 unfoldable pub eventSheet : List ℕ → List ℕ → Session → ℕ → List ℕ

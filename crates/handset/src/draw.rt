@@ -3,7 +3,7 @@ ghost use mathlib.Core.Path.{_≡_};
 ghost use Prim.Native.Nat.{_*_};
 ghost use lib.ListN.{length};
 ghost use Rattle.laws.specs.Choice.{_=?_};
-ghost use Rattle.picture.specs.Cursor.{told};
+ghost use Rattle.picture.specs.Cursor.{cursorPlace};
 ghost use Rattle.handset.specs.Refusals.{_before_, _unless_};
 ghost use Rattle.handset.specs.Draw.{drawRefusal, drawCursor, drawnPicture};
 use crate::refusal::NO_PICTURE;
@@ -35,7 +35,7 @@ fn draw_refusal(refusal: u8, columns: u8, lines: u8, length: usize) -> u8
 
 pub fn draw(image: &[u8], sheet: &[u8], session: Session, picture: &mut [u8]) -> Drawn
     ensures { λ r. ⌜ r .refusal ≡ drawRefusal (now (image .entry)) (length (now (sheet .entry))) session (length (now (picture .entry))) ⌝ }
-    ensures { λ r. ⌜ told (r .cursor) ≡ drawCursor (now (image .entry)) (length (now (sheet .entry))) session (length (now (picture .entry))) ⌝ }
+    ensures { λ r. ⌜ cursorPlace (r .cursor) ≡ drawCursor (now (image .entry)) (length (now (sheet .entry))) session (length (now (picture .entry))) ⌝ }
     ensures { λ _. ⌜ now (picture .exit) ≡ drawnPicture (now (image .entry)) (now (sheet .entry)) session (now (picture .entry)) ⌝ }
 {
     let faulty = refusal_of(image, sheet.len());

@@ -12,7 +12,7 @@ use cmf::title::read_title;
 fn write_component(c: Component, sheet: &mut [u8])
     ensures { λ _. ⌜ now (sheet .exit) ≡ defaultsWritten (heldBy c) (now (sheet .entry)) ⌝ }
 {
-    if c.holds {
+    if c.fielded {
         let field = c.field;
         field.write_default(&mut *sheet);
     }

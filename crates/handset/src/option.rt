@@ -53,8 +53,8 @@ fn text_refusal(image: &[u8], sheet: usize, place: usize, item: usize) -> u8
     ensures { λ r. ⌜ r ≡ textRefusal (now (image .entry)) sheet place item ⌝ }
 {
     let c = check(image, sheet);
-    let code = c.walk.refusal;
-    let fields = c.walk.fields;
+    let code = c.progress.refusal;
+    let fields = c.progress.fields;
     let index = c.index;
     if code != 0 {
         return code;

@@ -19,7 +19,7 @@ use Rattle.keys.specs.declared.press.Outcome.the-variants as outcome
 use Rattle.field.proofs.Trip.{finished-length}
 use Rattle.session.specs.Events.{second}
 use Rattle.session.specs.Visits.{followedSheet, visitSheet}
-use Rattle.session.specs.Event.{sheetIn}
+use Rattle.session.specs.Step.{sheetIn}
 use Rattle.session.specs.declared.session.Mode.{Mode}
 use Rattle.session.specs.declared.session.Mode.the-variants as mode
 use Rattle.handset.specs.Event.{eventRefusal, eventSheet}

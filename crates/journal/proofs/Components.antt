@@ -21,7 +21,7 @@ use Rattle.cmf.specs.declared.place.Found.the-variants.{At, Nothing}
 use Rattle.cmf.proofs.Onward.{component-onward}
 use Rattle.acceptance.proofs.Parts.{places-last, places-more}
 use Rattle.acceptance.proofs.Turns.{turns-more}
-use Rattle.session.specs.Fits.{among}
+use Rattle.session.specs.Fits.{isIn}
 
 -- ---- one component
 
@@ -45,7 +45,7 @@ module _ (im : List ℕ) (c : ℕ) where
 
   -- section 7 gives no string that can be edited: what can be edited holds a field
   abbrev Holding : Component → Type 0
-  Holding x = x .editable ≡ true → x .holds ≡ true
+  Holding x = x .editable ≡ true → x .fielded ≡ true
 
   string-fixed : (tag : ℕ) (t : Run) → given im c 0x15 (tagBit 32 tag) t ≡ true → tagBit 32 tag ≡ 0
   unfolding given if_then_else_
@@ -58,26 +58,26 @@ module _ (im : List ℕ) (c : ℕ) where
       (λ q. let z = string-fixed tag t (rw (eqb-true code 0x15 q) at g) in absurd (false≢true (rw (eqb-true code 0x15 q, z) at e)))
       (λ q. rw q)
 
-  pub editable-holds : componentAt im c .editable ≡ true → componentAt im c .holds ≡ true
+  pub editable-holds : componentAt im c .editable ≡ true → componentAt im c .fielded ≡ true
   editable-holds = by-reading Holding (λ k e. absurd (false≢true e)) read-holds
 
 -- ---- lists of components
 
 -- a place that is among others is one of them
-pub among-in : (p : ℕ) (cs : List ℕ) → among p cs ≡ true → List·Memᴰ p cs
-unfolding among
+pub among-in : (p : ℕ) (cs : List ℕ) → isIn p cs ≡ true → List·Memᴰ p cs
+unfolding isIn
 among-in p [] h = absurd (false≢true h)
 among-in p (q ∷ qs) h =
     by-test (q =? p) (λ e. List·Memᴰ·head (sym (eqb-true q p e))) (λ e. List·Memᴰ·tail (among-in p qs (sym (if-false _ _ e) ∙ h)))
 
 -- and the other way
-pub in-among : (p : ℕ) (cs : List ℕ) → List·Memᴰ p cs → among p cs ≡ true
-unfolding among
+pub in-among : (p : ℕ) (cs : List ℕ) → List·Memᴰ p cs → isIn p cs ≡ true
+unfolding isIn
 in-among p [] m = absurd (List·Memᴰ·not-nil m)
 in-among p (q ∷ qs) m =
     if-ind (λ (t : Bool). t ≡ true) (q =? p) (λ _. refl) (λ e. go (eqb-false q p e) (List·Memᴰ·cases-cons m) (λ k. in-among p qs k))
   where
-    go : (q ≡ p → ⊥) → (p ≡ q) ⊎ List·Memᴰ p qs → (List·Memᴰ p qs → among p qs ≡ true) → among p qs ≡ true
+    go : (q ≡ p → ⊥) → (p ≡ q) ⊎ List·Memᴰ p qs → (List·Memᴰ p qs → isIn p qs ≡ true) → isIn p qs ≡ true
     go d (inl i) later = absurd (d (sym i))
     go d (inr k) later = later k
 

@@ -10,7 +10,7 @@ use lib.ListN.{length}
 use borrow.Author.Tests.{eqb-true, eqb-false, ltb-true, ne-eqb}
 use Rattle.laws.specs.Choice.{if_then_else_, _and_, _=?_, _≤?_}
 use Rattle.laws.proofs.Cases.{if-ind, if-true, if-false, by-test, and-l, and-r}
-use Rattle.field.specs.Table.{profileOf}
+use Rattle.field.specs.Profiles.{profileOf}
 use Rattle.field.specs.Values.{bytesOf}
 use Rattle.field.specs.Cells.{finished}
 use Rattle.field.specs.Sheet.{ownBytes, begun, finishedIn}
@@ -35,18 +35,18 @@ use Rattle.acceptance.proofs.Fields.{others-apart, field-inside}
 use Rattle.acceptance.proofs.Reach.{part-of}
 use Rattle.session.specs.Events.{up, down, left, right, enter, second, lastDigitKey}
 use Rattle.session.specs.Fits.{cursorLine, workFits, visitFits, modeFits, sessionFits}
-use Rattle.session.specs.Steps.{taken, flash, withIdle, browsing, isFlash, isRefused}
+use Rattle.session.specs.Answers.{taken, flash, withIdle, browsing, isFlash, isRefused}
 use Rattle.session.specs.Seconds.{browseSecond, entrySecond}
 use Rattle.session.specs.Browsing.{upStep, downStep, leftStep, descended, rightStep, visitAt, enterAt, enterStep, browseStep}
 use Rattle.session.specs.Passwords.{lastDigit, digitStep, entryStep}
 use Rattle.session.specs.Visits.{pressed, movedTo, movedOn, followed, followedSheet, visitStep, visitSheet}
-use Rattle.session.specs.Event.{stepIn, sheetIn}
+use Rattle.session.specs.Step.{stepIn, sheetIn}
 use Rattle.session.specs.declared.session.Mode.{Mode}
 use Rattle.session.specs.declared.session.Mode.the-variants as mode
 use Rattle.session.specs.declared.session.Session.{Session}
-use Rattle.session.specs.declared.step.Answer.{Answer}
-use Rattle.session.specs.declared.step.Answer.the-variants as answer
-use Rattle.session.specs.declared.step.Stepped.{Stepped}
+use Rattle.session.specs.declared.answer.Answer.{Answer}
+use Rattle.session.specs.declared.answer.Answer.the-variants as answer
+use Rattle.session.specs.declared.answer.Stepped.{Stepped}
 use Rattle.handset.specs.Event.{eventRefusal, refusedWith, eventStep, eventSheet}
 use Rattle.handset.proofs.Stepping.{refused-step, refused-sheet, stepped, stepped-sheet, EventGranted, event-granted}
 use Rattle.journal.specs.Journal.{answered, on, ignored, counts}

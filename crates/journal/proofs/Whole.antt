@@ -9,8 +9,8 @@ use borrow.Author.Tests.{eqb-true, eqb-false}
 use Rattle.laws.specs.Choice.{if_then_else_, _=?_}
 use Rattle.laws.proofs.Cases.{by-test, if-false}
 use Rattle.session.specs.Events.{enter}
-use Rattle.session.specs.declared.step.Answer.{Answer}
-use Rattle.session.specs.declared.step.Answer.the-variants as answer
+use Rattle.session.specs.declared.answer.Answer.{Answer}
+use Rattle.session.specs.declared.answer.Answer.the-variants as answer
 use Rattle.journal.specs.Journal.{Answered, answered, Out, on, stored, Rules, counts, ignored, after, keysOf, onward, presses, leaves, visited, allVisited, Finishes, AllFinish, Journal, update, noted, finishedKeys, withVisit, settled, fed, allFed, empty, journalOf}
 use Rattle.journal.proofs.Steps.{View, away, at, System, isFinished, log, final, Kept, Fresh, none, begun, Step, skips, quiet, opens, goes, passes, ends, Lawful, Opened}
 

@@ -6,9 +6,9 @@ use mathlib.Core.Bool.{Bool, true, false}
 use mathlib.Core.List.{List, [], _∷_, _++_, reverse}
 use Rattle.laws.specs.Choice.{if_then_else_, _=?_}
 use Rattle.session.specs.Events.{enter, second}
-use Rattle.session.specs.Steps.{isFlash, isRefused}
-use Rattle.session.specs.declared.step.Answer.{Answer}
-use Rattle.session.specs.declared.step.Answer.the-variants as answer
+use Rattle.session.specs.Answers.{isFlash, isRefused}
+use Rattle.session.specs.declared.answer.Answer.{Answer}
+use Rattle.session.specs.declared.answer.Answer.the-variants as answer
 
 -- ---- what it is fed
 

@@ -60,7 +60,7 @@ rulesOf im = record {
 }
 
 -- a field of an image stands at a place: for some length of the sheet the image is well formed, and what is read at the place is one of its fields.
--- Every field of the image is one (`Promises`, `every-field`), and the fields are the same for every sheet (`walk` `same-fields`)
+-- Every field of the image is one (`Promises`, `every-field`), and the fields are the same for every sheet (`progress` `same-fields`)
 pub record IsField (im : List ℕ) (q : ℕ) : Type 0 where
   pub sheet : ℕ
   pub formed : WellFormed im sheet

@@ -3,7 +3,7 @@ use Prim.Native.Nat.{ℕ}
 use mathlib.Core.List.{List, [], _∷_}
 use lib.ListN.{length}
 use Rattle.session.specs.declared.session.Session.{Session}
-use Rattle.session.specs.declared.step.Answer.{Answer}
+use Rattle.session.specs.declared.answer.Answer.{Answer}
 use Rattle.handset.specs.Open.{openAnswer, openSheet}
 use Rattle.handset.specs.Event.{eventStep, eventSheet}
 use Rattle.journal.specs.Journal.{Answered, answered, journalOf}

@@ -12,12 +12,12 @@ use borrow.Author.Tests.{ltb-true, leb-true, le-leb}
 use Rattle.laws.specs.Choice.{if_then_else_, _<?_, _≤?_}
 use Rattle.laws.proofs.Cases.{if-ind, and-i, and-l, and-r}
 use Rattle.field.specs.Formats.{baseOf}
-use Rattle.field.specs.Table.{profileOf, cellOf, ends, flag, digit}
+use Rattle.field.specs.Profiles.{profileOf, cellOf, ends, flag, digit}
 use Rattle.field.specs.Cells.{within, legalTo, legal}
 use Rattle.keys.specs.Keys.{taken, withChosen, choosing, chosen, raised, lowered, upKey, downKey, leftKey, rightKey, onRight, digitKey, partAfter, enterKey}
 use Rattle.field.specs.declared.kind.Kind.{Kind}
 use Rattle.field.specs.declared.kind.Kind.the-variants.{Integer, Counter, Time, Date, Switch, Option, Trigger}
-use Rattle.field.specs.declared.table.Cell.{Cell}
+use Rattle.field.specs.declared.profile.Cell.{Cell}
 use Rattle.field.specs.declared.work.Work.{Work}
 use Rattle.keys.specs.declared.press.Pressed.{Pressed}
 use Rattle.keys.specs.declared.press.Outcome.{Outcome}

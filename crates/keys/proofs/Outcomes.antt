@@ -7,13 +7,13 @@ use native.Mathlib.Numerals.{add-one}
 use borrow.Author.Tests.{ltb-false}
 use Rattle.laws.specs.Choice.{if_then_else_, _and_, _<?_}
 use Rattle.laws.proofs.Cases.{if-ind, and-l}
-use Rattle.field.specs.Table.{profileOf, cellOf}
+use Rattle.field.specs.Profiles.{profileOf, cellOf}
 use Rattle.field.specs.Cells.{stores, workOf, started}
-use Rattle.keys.specs.Keys.{taken, flash, nextPart, done, fired, passed, withChosen, choosing, raised, lowered, upKey, downKey, leftKey, rightKey, digitKey, partAfter, enterKey}
+use Rattle.keys.specs.Keys.{taken, flash, nextPart, done, fired, passedBy, withChosen, choosing, raised, lowered, upKey, downKey, leftKey, rightKey, digitKey, partAfter, enterKey}
 use Rattle.field.specs.declared.kind.Kind.{Kind}
 use Rattle.field.specs.declared.kind.Kind.the-variants.{Integer, Counter, Time, Date, Switch, Option, Trigger}
-use Rattle.field.specs.declared.table.Profile.{Profile}
-use Rattle.field.specs.declared.table.Cell.{Cell}
+use Rattle.field.specs.declared.profile.Profile.{Profile}
+use Rattle.field.specs.declared.profile.Cell.{Cell}
 use Rattle.field.specs.declared.work.Work.{Work}
 use Rattle.field.specs.declared.value.Value.{Value}
 use Rattle.keys.specs.declared.press.Pressed.{Pressed}
@@ -70,7 +70,7 @@ module _ {k : Kind} {w : Work} where
   says-fired f = record { facts = (refl, f, refl) }
 
   -- ENTER on a trigger
-  says-passed : profileOf k .fires ≡ true → Says true k w (passed w)
+  says-passed : profileOf k .fires ≡ true → Says true k w (passedBy w)
   says-passed f = record { facts = (refl, f, refl) }
 
   -- ENTER before the last part

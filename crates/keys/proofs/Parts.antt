@@ -6,7 +6,7 @@ use borrow.Author.Tests.{ltb-true}
 use Rattle.laws.specs.Choice.{_and_}
 use Rattle.laws.proofs.Cases.{and-r}
 use Rattle.keys.specs.Keys.{partAfter}
-use Rattle.field.specs.declared.table.Profile.{Profile}
+use Rattle.field.specs.declared.profile.Profile.{Profile}
 use Rattle.field.specs.declared.work.Work.{Work}
 
 -- a part after the chosen one is a cell of the field

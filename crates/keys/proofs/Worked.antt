@@ -8,7 +8,7 @@ use Rattle.laws.specs.Choice.{if_then_else_, _and_}
 use Rattle.laws.specs.Overwrite.{fit}
 use Rattle.laws.specs.Digits.{digitsOf, numberFrom, lowFirst, fromLow}
 use Rattle.field.specs.Formats.{formatOf, signsOf, digitsIn, baseOf, limitOf, halfOf, topOf, bitsIn}
-use Rattle.field.specs.Table.{profileOf, cellOf}
+use Rattle.field.specs.Profiles.{profileOf, cellOf}
 use Rattle.field.specs.Values.{bytesOf, valueOf, numberOf, valueFrom}
 use Rattle.field.specs.Cells.{spans, distance, signOf, inDigits, shownBy, minus, storable, ofDigits, cellsOf, storedIn, inSpan, stores, within, legalTo, legal, inRange, workOf, started, finished}
 use Rattle.keys.specs.Keys.{raised, lowered, upKey, downKey, leftKey, rightKey, onRight, digitKey, partAfter, enterKey}

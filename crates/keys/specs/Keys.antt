@@ -3,11 +3,11 @@ use Prim.Native.Nat.{ℕ, _+_, _-_}
 use mathlib.Core.Bool.{Bool}
 use lib.ListN.{getD, set}
 use Rattle.laws.specs.Choice.{if_then_else_, _and_, _<?_, _≤?_}
-use Rattle.field.specs.Table.{profileOf}
+use Rattle.field.specs.Profiles.{profileOf}
 use Rattle.field.specs.Cells.{stores}
 use Rattle.field.specs.declared.kind.Kind.{Kind}
-use Rattle.field.specs.declared.table.Profile.{Profile}
-use Rattle.field.specs.declared.table.Cell.{Cell}
+use Rattle.field.specs.declared.profile.Profile.{Profile}
+use Rattle.field.specs.declared.profile.Cell.{Cell}
 use Rattle.field.specs.declared.work.Work.{Work}
 use Rattle.keys.specs.declared.press.Pressed.{Pressed}
 use Rattle.keys.specs.declared.press.Outcome.the-variants as outcome
@@ -29,8 +29,8 @@ done w = record { work = w; outcome = outcome.Done }
 abbrev pub fired : Work → Pressed
 fired w = record { work = w; outcome = outcome.Fired }
 
-abbrev pub passed : Work → Pressed
-passed w = record { work = w; outcome = outcome.Passed }
+abbrev pub passedBy : Work → Pressed
+passedBy w = record { work = w; outcome = outcome.Passed }
 
 -- the chosen cell; that cell set; another cell chosen
 abbrev pub chosen : Work → ℕ
@@ -95,7 +95,7 @@ partAfter p w = p .parts and ((w .at + 1) <? p .cells)
 -- ENTER passes a trigger by, and goes to the next part of a time or date; the last ENTER finishes the visit if what is shown can be stored
 unfoldable pub enterKey : Kind → Work → Pressed
 enterKey k w =
-    if profileOf k .fires then passed w
+    if profileOf k .fires then passedBy w
     else if partAfter (profileOf k) w then nextPart (choosing w (w .at + 1))
     else if stores k (w .cells) then done w
     else flash w

@@ -3,9 +3,9 @@ ghost use mathlib.Core.Path.{_≡_};
 ghost use Prim.Native.Nat.{_<_};
 ghost use Rattle.keys.specs.Keys.{taken, flash, chosen, withChosen, raised, lowered, upKey, downKey, leftKey, rightKey, onRight, digitKey, partAfter, enterKey};
 use field::kind::Kind;
-use field::table::Cell;
-use field::table::Profile;
-use field::table::profile_of;
+use field::profile::Cell;
+use field::profile::Profile;
+use field::profile::profile_of;
 use field::work::Work;
 
 // What a key came to. Taken: the visit goes on. Flash: it stays as it was. NextPart: ENTER went to the next part of a time or date.

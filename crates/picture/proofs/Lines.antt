@@ -28,17 +28,17 @@ use Rattle.texts.proofs.Writing.{Rest, behind, same, rest-step, rest-end, padde
 -- ---- what one component shows
 
 module _ {x z : List ℕ} {at r : ℕ} (im sheet : List ℕ) (s : Session) (p : ℕ) (c : Component) where
-  pub shown-visit : (t : Bool) → c .holds ≡ true → t ≡ visiting (s .mode) p → t ≡ true
+  pub shown-visit : (t : Bool) → c .fielded ≡ true → t ≡ visiting (s .mode) p → t ≡ true
       → Put x at (cellsText im p (c .field .kind) (s .work .cells)) z r → Put x at (componentText im sheet s p c) z r
   unfolding componentText
   shown-visit t h e b k = same (sym (if-true _ _ h ∙ if-true _ _ (sym e ∙ b))) k
 
-  pub shown-field : (t : Bool) → c .holds ≡ true → t ≡ visiting (s .mode) p → t ≡ false
+  pub shown-field : (t : Bool) → c .fielded ≡ true → t ≡ visiting (s .mode) p → t ≡ false
       → Put x at (fieldText im sheet p (c .field)) z r → Put x at (componentText im sheet s p c) z r
   unfolding componentText
   shown-field t h e b k = same (sym (if-true _ _ h ∙ if-false _ _ (sym e ∙ b))) k
 
-  pub shown-string : (t : List ℕ) → c .holds ≡ false → t ≡ textBytes im (p + 1) → Put x at t z r → Put x at (componentText im sheet s p c) z r
+  pub shown-string : (t : List ℕ) → c .fielded ≡ false → t ≡ textBytes im (p + 1) → Put x at t z r → Put x at (componentText im sheet s p c) z r
   unfolding componentText
   shown-string t h e k = same (e ∙ sym (if-false _ _ h)) k
 
@@ -118,7 +118,7 @@ module _ (im : List ℕ) (l : Level) (h : Head) (f : Found) (e : h ≡ cursorHea
 -- ---- the mark of a line in row 0, as its row tells it
 
 module _ (im : List ℕ) (left p : ℕ) (c : Component) (all : Found) (mark r : ℕ) (l : 0 < left) (e : c ≡ componentAt im p)
-    (before : mark ≡ 0 → firstEditable im (componentsFrom im left p) ≡ all) (told : (mark ≡ 0 → ⊥) → mark ≡ markOf all)
+    (before : mark ≡ 0 → firstEditable im (componentsFrom im left p) ≡ all) (cursorPlace : (mark ≡ 0 → ⊥) → mark ≡ markOf all)
     (q : r ≡ (if mark =? 0 then (if c .editable then colon else if c .last then star else 0) else mark)) where
   here-editable : mark ≡ 0 → c .editable ≡ true → r ≡ markOf all
   here-editable z a = q ∙ if-eq mark 0 _ _ z ∙ if-true _ _ a ∙ rw (sym (before z) ∙ editable-here im left p c l e a)
@@ -134,7 +134,7 @@ module _ (im : List ℕ) (left p : ℕ) (c : Component) (all : Found) (mark r : 
       by-test (mark =? 0)
       (λ h. let z = eqb-true mark 0 h in
       by-test (c .editable) (λ a. here-editable z a) (λ a. by-test (c .last) (λ b. here-last z a b) (λ b. absurd (n (here-none z a b)))))
-      (λ h. let k = eqb-false mark 0 h in q ∙ if-ne mark 0 _ _ k ∙ told k)
+      (λ h. let k = eqb-false mark 0 h in q ∙ if-ne mark 0 _ _ k ∙ cursorPlace k)
 
   pub mark-next : c .last ≡ false → r ≡ 0 → firstEditable im (componentsFrom im (left - 1) (c .next)) ≡ all
   mark-next b y =

@@ -17,9 +17,9 @@ use Rattle.picture.specs.declared.cursor.EditCursor.{EditCursor}
 use Rattle.picture.specs.declared.cursor.EditCursor.the-variants.{Nowhere, At}
 
 -- the answer's numbers: none, or the row and the column, both from 0
-unfoldable pub told : EditCursor → List ℕ
-told Nowhere = []
-told (At row column) = row ∷ column ∷ []
+unfoldable pub cursorPlace : EditCursor → List ℕ
+cursorPlace Nowhere = []
+cursorPlace (At row column) = row ∷ column ∷ []
 
 -- R32: the first cell of part i of a date whose year has so many digits
 unfoldable pub datePart : ℕ → ℕ → ℕ
@@ -37,7 +37,7 @@ cellWithin Trigger i = 1
 
 -- the cells of the component at a place
 unfoldable pub widthAt : List ℕ → ℕ → Component → ℕ
-widthAt im p c = if c .holds then widthOf (c .field .kind) else length (textBytes im (p + 1))
+widthAt im p c = if c .fielded then widthOf (c .field .kind) else length (textBytes im (p + 1))
 
 -- the cells of the components before the one at a place
 unfoldable pub cellsBefore : List ℕ → ℕ → List ℕ → ℕ

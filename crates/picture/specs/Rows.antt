@@ -90,7 +90,7 @@ visiting (mode.Password n) p = false
 -- 01, Picture: the component of an open visit shows the working copy, any other field the sheet; R33: a string shows its bytes as they are
 unfoldable pub componentText : List ℕ → List ℕ → Session → ℕ → Component → List ℕ
 componentText im sheet s p c =
-    if c .holds then
+    if c .fielded then
     (if visiting (s .mode) p then cellsText im p (c .field .kind) (s .work .cells) else fieldText im sheet p (c .field))
     else textBytes im (p + 1)
 

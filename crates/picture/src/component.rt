@@ -27,7 +27,7 @@ pub(crate) fn put_component(
     let field = c.field;
     let kind = field.kind;
     let mode = session.mode;
-    if c.holds {
+    if c.fielded {
         let open = visits(mode, place);
         if open {
             return put_cells(&mut *row, at, image, place, kind, cells);

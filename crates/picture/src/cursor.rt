@@ -2,7 +2,7 @@
 ghost use mathlib.Core.Path.{_≡_};
 ghost use Prim.Native.Nat.{_+_, _≤_, _<_, min};
 ghost use Rattle.cmf.specs.Places.{componentsOf};
-ghost use Rattle.picture.specs.Cursor.{told, datePart, cellWithin, widthAt, cellsBefore, dataCell, editCursor};
+ghost use Rattle.picture.specs.Cursor.{cursorPlace, datePart, cellWithin, widthAt, cellsBefore, dataCell, editCursor};
 use cmf::component::Component;
 use cmf::component::read_component;
 use cmf::head::read_head;
@@ -31,7 +31,7 @@ fn width_at(image: &[u8], c: Component, place: usize) -> usize
 {
     let field = c.field;
     let kind = field.kind;
-    if c.holds {
+    if c.fielded {
         return width_of(kind);
     }
     string_bytes(image, place).len()
@@ -118,7 +118,7 @@ fn data_cell(image: &[u8], session: Session, place: usize) -> usize
 
 // Where the edit cursor stands.
 pub fn edit_cursor(image: &[u8], session: Session) -> EditCursor
-    ensures { λ r. ⌜ told r ≡ editCursor (now (image .entry)) session ⌝ }
+    ensures { λ r. ⌜ cursorPlace r ≡ editCursor (now (image .entry)) session ⌝ }
 {
     let here = session.here;
     let mode = session.mode;

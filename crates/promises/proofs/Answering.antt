@@ -17,7 +17,7 @@ use Rattle.keys.specs.declared.press.Outcome.the-variants as outcome
 use Rattle.cmf.specs.Readers.{componentAt}
 use Rattle.cmf.specs.declared.component.Component.{Component}
 use Rattle.acceptance.proofs.Acceptance.{accepted-exactly-when-well-formed}
-use Rattle.session.specs.Steps.{finishedFrom, isRefused, taken, flash}
+use Rattle.session.specs.Answers.{finishedFrom, isRefused, taken, flash}
 use Rattle.session.specs.Fits.{modeFits, visitFits, sessionFits}
 use Rattle.session.specs.Seconds.{browseSecond, entrySecond}
 use Rattle.cmf.specs.declared.place.Found.{Found}
@@ -25,13 +25,13 @@ use Rattle.cmf.specs.declared.place.Found.the-variants.{At, Nothing}
 use Rattle.session.specs.Browsing.{upStep, downStep, leftStep, descended, rightStep, enterAt, enterStep, browseStep}
 use Rattle.session.specs.Passwords.{lastDigit, digitStep, entryStep}
 use Rattle.session.specs.Visits.{followed, visitStep}
-use Rattle.session.specs.Event.{stepIn, stepOf, sheetOf}
+use Rattle.session.specs.Step.{stepIn, stepOf, sheetOf}
 use Rattle.session.specs.declared.session.Mode.{Mode}
 use Rattle.session.specs.declared.session.Mode.the-variants as mode
 use Rattle.session.specs.declared.session.Session.{Session}
-use Rattle.session.specs.declared.step.Stepped.{Stepped}
+use Rattle.session.specs.declared.answer.Stepped.{Stepped}
 use Rattle.session.proofs.Answers.{Near, told-once}
-use Rattle.handset.specs.Event.{eventRefusal, refusedWith, eventStep, eventTold, eventSheet}
+use Rattle.handset.specs.Event.{eventRefusal, refusedWith, eventStep, eventAnswer, eventSheet}
 use Rattle.handset.proofs.Stepping.{refused-step, refused-sheet, stepped, stepped-sheet, event-granted}
 
 -- ---- the step of a mode
@@ -83,10 +83,10 @@ mode-plain im sheet s e (mode.Password k) = search (by-plain, taken-plain, flash
 -- ---- the visited component
 
 -- what holds a field begins in the image
-holds-inside : (im : List ℕ) (p : ℕ) → componentAt im p .holds ≡ true → p < length im
+holds-inside : (im : List ℕ) (p : ℕ) → componentAt im p .fielded ≡ true → p < length im
 unfolding componentAt
 holds-inside im p =
-    if-ind (λ (c : Component). c .holds ≡ true → p < length im) (p <? length im) (λ h _. ltb-true p (length im) h)
+    if-ind (λ (c : Component). c .fielded ≡ true → p < length im) (p <? length im) (λ h _. ltb-true p (length im) h)
     (λ _ h. absurd (false≢true h))
 
 -- so does what a session that fits visits
@@ -124,6 +124,6 @@ module _ (im sheet : List ℕ) (s : Session) (e : ℕ) where
 
 -- the number of an answer settles it
 pub told-apart : (im sheet : List ℕ) (s : Session) (e : ℕ) (im′ sheet′ : List ℕ) (s′ : Session) (e′ : ℕ)
-    → eventTold im sheet s e ≡ eventTold im′ sheet′ s′ e′ → eventStep im sheet s e .answer ≡ eventStep im′ sheet′ s′ e′ .answer
-unfolding eventTold
+    → eventAnswer im sheet s e ≡ eventAnswer im′ sheet′ s′ e′ → eventStep im sheet s e .answer ≡ eventStep im′ sheet′ s′ e′ .answer
+unfolding eventAnswer
 told-apart im sheet s e im′ sheet′ s′ e′ h = told-once _ _ (event-near im sheet s e) (event-near im′ sheet′ s′ e′) h

@@ -17,14 +17,14 @@ use Rattle.cmf.specs.Places.{lineCount}
 use Rattle.acceptance.proofs.Reach.{some-line}
 use Rattle.session.specs.Session.{level, noLevel}
 use Rattle.session.specs.Fits.{shapeFits, cursorHead, levelFits, levelsFit, tablesFit, modeFits, sessionFits}
-use Rattle.session.specs.Steps.{taken, flash, withIdle, showing, doing}
+use Rattle.session.specs.Answers.{taken, flash, withIdle, showing, inMode}
 use Rattle.session.specs.Seconds.{later, waited, atTop, browseSecond}
 use Rattle.session.specs.Browsing.{firstFor, cursorOn, upStep, downStep, leftStep, descended}
 use Rattle.session.specs.declared.session.Level.{Level}
 use Rattle.session.specs.declared.session.Mode.{Mode}
 use Rattle.session.specs.declared.session.Mode.the-variants as mode
 use Rattle.session.specs.declared.session.Session.{Session}
-use Rattle.session.specs.declared.step.Stepped.{Stepped}
+use Rattle.session.specs.declared.answer.Stepped.{Stepped}
 
 -- the arrays of a session have the lengths that their types say; as lists they could have any
 pub record Sized (s : Session) : Type 0 where
@@ -169,8 +169,8 @@ module _ (im : List ℕ) (c l : ℕ) where
     }
 
     -- another mode, whose clause holds
-    pub doing-good : (m : Mode) (w : Work) (ds : List ℕ) → length (w .cells) ≡ 32 → length ds ≡ 8 → modeFits im (doing s m w ds) m ≡ true
-        → Good im c l (doing s m w ds)
+    pub doing-good : (m : Mode) (w : Work) (ds : List ℕ) → length (w .cells) ≡ 32 → length ds ≡ 8 → modeFits im (inMode s m w ds) m ≡ true
+        → Good im c l (inMode s m w ds)
     doing-good m w ds a b h = record {
       columns = g .columns;
       lines = g .lines;
@@ -181,7 +181,7 @@ module _ (im : List ℕ) (c l : ℕ) where
     }
 
     -- browsing asks nothing more
-    pub browsing-good : (ds : List ℕ) → length ds ≡ 8 → Good im c l (doing s mode.Browsing (s .work) ds)
+    pub browsing-good : (ds : List ℕ) → length ds ≡ 8 → Good im c l (inMode s mode.Browsing (s .work) ds)
     unfolding modeFits
     browsing-good ds h = doing-good mode.Browsing (s .work) ds (g .sized .cells) h refl
 

@@ -14,10 +14,10 @@ use Rattle.laws.specs.Bytes.{byteAt}
 use Rattle.laws.proofs.Cases.{and-i, and-l, and-r}
 use Rattle.cmf.specs.Grammar.{WellFormed}
 use Rattle.session.specs.Fits.{shapeFits, cursorLine, cursorHead, digitsTo, entryFits, modeFits}
-use Rattle.session.specs.Steps.{withIdle}
+use Rattle.session.specs.Answers.{withIdle}
 use Rattle.session.specs.Seconds.{later, entrySecond}
 use Rattle.session.specs.Browsing.{rightStep}
-use Rattle.session.specs.Passwords.{entered, lastDigit, digitStep, entryStep}
+use Rattle.session.specs.Passwords.{entryOver, lastDigit, digitStep, entryStep}
 use Rattle.session.specs.declared.session.Mode.the-variants as mode
 use Rattle.session.specs.declared.session.Session.{Session}
 use Rattle.journal.proofs.Reached.{cursor-line-in}
@@ -95,7 +95,7 @@ module _ (im : List ℕ) (c l : ℕ) (shape : shapeFits c l ≡ true) (sheet : �
       unfolding lastDigit
       last-keeps =
           let z = browsing-good im c l s g typed eight in
-          by-keeps im c l _ (λ _. descended-keeps im c l (entered s typed) z refl shape (submenu-there s protected-here)) (λ _. record { good = z })
+          by-keeps im c l _ (λ _. descended-keeps im c l (entryOver s typed) z refl shape (submenu-there s protected-here)) (λ _. record { good = z })
 
       -- a digit, the last or another
       digit-keeps : Keeps im c l (digitStep im s (cursorHead im (s .here)) n d)

@@ -7,7 +7,7 @@ use mathlib.Core.List.{List, List·Memᴰ}
 use lib.ListN.{length}
 use Rattle.laws.specs.Choice.{_=?_}
 use Rattle.laws.proofs.Cases.{and-i, and-l, and-r}
-use Rattle.field.specs.Table.{profileOf}
+use Rattle.field.specs.Profiles.{profileOf}
 use Rattle.field.specs.Sheet.{finishedIn}
 use Rattle.field.specs.declared.kind.Kind.{Kind}
 use Rattle.field.specs.declared.kind.ImagePlace.{ImagePlace}
@@ -24,7 +24,7 @@ use Rattle.cmf.specs.declared.place.Found.{Found}
 use Rattle.acceptance.proofs.Reach.{part-of}
 use Rattle.session.specs.Events.{enter}
 use Rattle.session.specs.Fits.{shapeFits, cursorLine, visitFits, modeFits}
-use Rattle.session.specs.Steps.{withIdle, visiting}
+use Rattle.session.specs.Answers.{withIdle, inVisit}
 use Rattle.session.specs.Browsing.{visitAt, enterAt, enterStep}
 use Rattle.session.specs.Visits.{movedTo, movedOn, followed, visitStep}
 use Rattle.session.specs.declared.session.Mode.the-variants as mode
@@ -48,16 +48,16 @@ module _ (im : List ℕ) (c l : ℕ) (shape : shapeFits c l ≡ true) (n : ℕ) 
 
   module _ (s : Session) (g : Good im c l s) where
     -- a visit of an editable component of the line, with a legal working copy
-    visiting-good : (q : ImagePlace) (v : Work) → List·Memᴰ (q .0) (lineOf s) → componentAt im (q .0) .editable ≡ true
-        → Legal (componentAt im (q .0) .field .kind) v → length (v .cells) ≡ 32 → Good im c l (visiting s q v)
+    visit-good : (q : ImagePlace) (v : Work) → List·Memᴰ (q .0) (lineOf s) → componentAt im (q .0) .editable ≡ true
+        → Legal (componentAt im (q .0) .field .kind) v → length (v .cells) ≡ 32 → Good im c l (inVisit s q v)
     unfolding modeFits visitFits
-    visiting-good q v m e h z =
+    visit-good q v m e h z =
         doing-good im c l s g (mode.Visit q) v (s .typed) z (g .sized .typed)
         (and-i (in-among (q .0) _ m) (and-i (editable-holds im (q .0) e) (and-i e (legal-fits _ v h))))
 
     -- a visit that begins
     begun-good : (sheet : List ℕ) (q : ImagePlace) → List·Memᴰ (q .0) (lineOf s) → componentAt im (q .0) .editable ≡ true → Good im c l (visitAt im sheet s q)
-    begun-good sheet q m e = visiting-good q _ m e (begun-legal _ sheet (line-ready s g (q .0) m e)) (begun-cells (componentAt im (q .0) .field) sheet)
+    begun-good sheet q m e = visit-good q _ m e (begun-legal _ sheet (line-ready s g (q .0) m e)) (begun-cells (componentAt im (q .0) .field) sheet)
 
     -- ENTER while browsing
     pub enter-keeps : (sheet : List ℕ) → Keeps im c l (enterStep im sheet s)
@@ -83,9 +83,9 @@ module _ (im : List ℕ) (c l : ℕ) (shape : shapeFits c l ≡ true) (n : ℕ) 
       followed-keeps : (sheet : List ℕ) (f : Field) (k : Kind) (t : Bool) (u v : Work) (o : Outcome) → Facts t k u v o → componentAt im (p .0) .editable ≡ true
           → (profileOf k .fires ≡ false → Legal (componentAt im (p .0) .field .kind) v) → length (v .cells) ≡ 32 → Keeps im c l (followed im sheet s p f v o)
       unfolding followed
-      followed-keeps sheet f k t u v outcome.Taken x e h z = record { good = visiting-good p v m e (h (x .1)) z }
+      followed-keeps sheet f k t u v outcome.Taken x e h z = record { good = visit-good p v m e (h (x .1)) z }
       followed-keeps sheet f k t u v outcome.Flash x e h z = record { good = g }
-      followed-keeps sheet f k t u v outcome.NextPart x e h z = record { good = visiting-good p v m e (h (x .1)) z }
+      followed-keeps sheet f k t u v outcome.NextPart x e h z = record { good = visit-good p v m e (h (x .1)) z }
       followed-keeps sheet f k t u v outcome.Done x e h z = record { good = moved-good (finishedIn f v sheet) }
       followed-keeps sheet f k t u v outcome.Fired x e h z = record { good = g }
       followed-keeps sheet f k t u v outcome.Passed x e h z = record { good = moved-good sheet }

@@ -22,7 +22,7 @@ use Rattle.session.specs.declared.session.Mode.the-variants as mode
 use Rattle.session.specs.declared.session.Session.{Session}
 use Rattle.texts.specs.Texts.{fieldText}
 use Rattle.picture.specs.Rows.{visiting, componentText, dataText, lineRow, rowAt, rowsFrom, rowsBelow, pictureOf}
-use Rattle.picture.specs.Cursor.{told, dataCell, cursorIn, editCursor}
+use Rattle.picture.specs.Cursor.{cursorPlace, dataCell, cursorIn, editCursor}
 use Rattle.picture.proofs.Knowing.{line-next}
 use Rattle.picture.proofs.Filling.{shape-of, length-picture}
 use Rattle.handset.specs.Draw.{drawRefusal, drawCursor, drawnPicture}
@@ -98,7 +98,7 @@ module _ (im : List ℕ) (s : Session) (a b : List ℕ) (h : AgreeWhereShown im 
   component-shows : (p : ℕ) → OnShownLine im s p → componentText im a s p (componentAt im p) ≡ componentText im b s p (componentAt im p)
   unfolding componentText
   component-shows p o =
-      by-both (componentAt im p .holds)
+      by-both (componentAt im p .fielded)
       (λ t. by-both (visiting (s .mode) p) (λ _. refl) (λ v. field-shows im a b p _ (h .bytes p o t v)))
       (λ _. refl)
 
@@ -160,7 +160,7 @@ module _ (im sheet : List ℕ) (s : Session) (picture : List ℕ) where
       (λ _. refl)
 
   pub draw-promises : DrawPromises im sheet s picture
-  unfolding told
+  unfolding cursorPlace
   draw-promises = record {
     cursor-inside = λ row column.
         by-refusal (λ (l : List ℕ). l ≡ row ∷ column ∷ [] → DataCell s row column) (λ g. inside im s (g .fits) (s .mode) row column)

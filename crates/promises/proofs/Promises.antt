@@ -19,16 +19,16 @@ use Rattle.acceptance.proofs.Acceptance.{accepted-exactly-when-well-formed, cou
 use Rattle.acceptance.proofs.Faulty.{refused-exactly-when}
 use Rattle.acceptance.proofs.Fields.{every-in, all-standing}
 use Rattle.session.specs.Events.{second}
-use Rattle.session.specs.Steps.{told}
+use Rattle.session.specs.Answers.{answerNumber}
 use Rattle.session.specs.Fits.{shapeFits, sessionFits}
 use Rattle.session.specs.declared.session.Session.{Session}
-use Rattle.session.specs.declared.step.Stepped.{Stepped}
+use Rattle.session.specs.declared.answer.Stepped.{Stepped}
 use Rattle.session.proofs.Closed.{closed-never-fits}
 use Rattle.picture.specs.Cursor as cursor
 use Rattle.picture.specs.declared.cursor.EditCursor.{EditCursor}
 use Rattle.picture.specs.declared.cursor.EditCursor.the-variants.{Nowhere, At}
 use Rattle.handset.specs.Refusals.{_before_, _unless_, sessionRefusal}
-use Rattle.handset.specs.Event.{eventRefusal, eventTold}
+use Rattle.handset.specs.Event.{eventRefusal, eventAnswer}
 use Rattle.handset.specs.Open.{openRefusal, openAnswer, openSheet}
 use Rattle.handset.specs.OptionText.{reached, itemsIn, textRefusal, optionText}
 use Rattle.handset.specs.Draw.{drawRefusal, drawCursor, drawnPicture}
@@ -103,7 +103,7 @@ text-order im sheet place item = one-test (refusalOf im sheet) 14 _
 -- ---- demand 1
 
 pub demand-1 : (im : List ℕ) → Demand1 im
-unfolding openAnswer openSheet eventTold drawCursor drawnPicture cursor.told
+unfolding openAnswer openSheet eventAnswer drawCursor drawnPicture cursor.cursorPlace
 demand-1 im = record {
   numbers = record {
     of-image = refused-exactly-when im;
@@ -120,7 +120,7 @@ demand-1 im = record {
   };
   refused-event = λ sheet s e h. record {
     returns = sym (refused-step im sheet s e _ refl h);
-    tells = ap (λ (r : Stepped). told (r .answer)) (sym (refused-step im sheet s e _ refl h));
+    tells = ap (λ (r : Stepped). answerNumber (r .answer)) (sym (refused-step im sheet s e _ refl h));
     keeps = sym (refused-sheet im sheet s e _ refl h);
   };
   refused-draw = λ sheet s picture h. record {
@@ -204,15 +204,15 @@ only-text im sheet place item h =
     (rw (r .place) at (field-stands im sheet w (r .field) (r .known) .1), ltb-true item _ (and-r _ _ b))
 
 -- a cursor is found again from its numbers
-cursor-once : (a b : EditCursor) → cursor.told a ≡ cursor.told b → a ≡ b
-unfolding cursor.told
+cursor-once : (a b : EditCursor) → cursor.cursorPlace a ≡ cursor.cursorPlace b → a ≡ b
+unfolding cursor.cursorPlace
 cursor-once Nowhere Nowhere h = refl
 cursor-once Nowhere (At r c) h = let z : _≡_ {A = ℕ} 0 1 = cc in absurd (omega arith)
 cursor-once (At r c) Nowhere h = let z : _≡_ {A = ℕ} 0 1 = cc in absurd (omega arith)
 cursor-once (At r c) (At q d) h = cc
 
 pub demand-2 : (im : List ℕ) → Demand2 im
-unfolding begunWith openAnswer eventTold
+unfolding begunWith openAnswer eventAnswer
 demand-2 im = record {
   accepts = record { accepted = accepted-exactly-when-well-formed im; opens = open-well im; every-field = field-stands im };
   opens = λ sheet columns lines h. record {
@@ -223,7 +223,7 @@ demand-2 im = record {
   };
   steps = λ sheet s e h. record {
     steps = sym (stepped im sheet s e _ refl h);
-    tells = ap (λ (r : Stepped). told (r .answer)) (sym (stepped im sheet s e _ refl h));
+    tells = ap (λ (r : Stepped). answerNumber (r .answer)) (sym (stepped im sheet s e _ refl h));
     stores = sym (stepped-sheet im sheet s e _ refl h);
   };
   draws = λ sheet s picture h. record {

@@ -20,24 +20,24 @@ use Rattle.cmf.specs.Readers.{headAt}
 use Rattle.acceptance.proofs.Acceptance.{accepted-exactly-when-well-formed}
 use Rattle.acceptance.proofs.Reach.{Reached, no-levels, top-reached}
 use Rattle.session.specs.Events.{lastDigitKey, second}
-use Rattle.session.specs.Steps.{told, taken, flash, isFlash, withIdle}
+use Rattle.session.specs.Answers.{answerNumber, taken, flash, isFlash, withIdle}
 use Rattle.session.specs.Fits.{cursorLine, cursorHead, levelsFit, tablesFit, modeFits, entryFits, sessionFits}
 use Rattle.session.specs.Seconds.{browseSecond, entrySecond}
 use Rattle.cmf.specs.Places.{nextEditable}
 use Rattle.cmf.specs.declared.place.Found.{Found}
 use Rattle.cmf.specs.declared.place.Found.the-variants.{At, Nothing}
 use Rattle.session.specs.Browsing.{upStep, downStep, leftStep, descended, rightStep, enterAt, enterStep, browseStep}
-use Rattle.session.specs.Passwords.{rightTo, entered, lastDigit, digitStep, entryStep}
+use Rattle.session.specs.Passwords.{rightTo, entryOver, lastDigit, digitStep, entryStep}
 use Rattle.session.specs.Visits.{movedTo, movedOn, followed, followedSheet, visitStep, visitSheet}
-use Rattle.session.specs.Event.{stepIn, sheetIn, stepOf}
+use Rattle.session.specs.Step.{stepIn, sheetIn, stepOf}
 use Rattle.session.specs.declared.session.Level.{Level}
 use Rattle.session.specs.declared.session.Mode.{Mode}
 use Rattle.session.specs.declared.session.Mode.the-variants as mode
 use Rattle.session.specs.declared.session.Session.{Session}
-use Rattle.session.specs.declared.step.Answer.{Answer}
-use Rattle.session.specs.declared.step.Answer.the-variants as answer
-use Rattle.session.specs.declared.step.Stepped.{Stepped}
-use Rattle.handset.specs.Event.{eventRefusal, eventStep, eventTold, eventSheet}
+use Rattle.session.specs.declared.answer.Answer.{Answer}
+use Rattle.session.specs.declared.answer.Answer.the-variants as answer
+use Rattle.session.specs.declared.answer.Stepped.{Stepped}
+use Rattle.handset.specs.Event.{eventRefusal, eventStep, eventAnswer, eventSheet}
 use Rattle.handset.proofs.Stepping.{stepped, EventGranted, event-granted}
 use Rattle.journal.proofs.Reached.{level-in}
 use Rattle.protected.proofs.Passwords.{head-guarded}
@@ -168,7 +168,7 @@ module _ (im : List ℕ) (s : Session) (e : ℕ) where
 
       -- the entry fails
       fails : (length (s .above) ≡ 7 → rightTo im (cursorHead im (s .here) .password + 1) typed (n + 1) ≡ false)
-          → Kept (flash (entered (withIdle s 0) typed))
+          → Kept (flash (entryOver (withIdle s 0) typed))
       fails w = record {
         idle = λ _. refl;
         flash = λ _. inr (record { before = n; entry = m; digit = d; last = l; wrong = w; after = refl });
@@ -266,8 +266,8 @@ mode-writes im sheet s e (mode.Password k) n = refl
 -- ---- numbers of answers
 
 -- 1 is the number of a flash alone
-told-flash : (a : Answer) → told a ≡ told answer.Flash → isFlash a ≡ true
-unfolding told
+told-flash : (a : Answer) → answerNumber a ≡ answerNumber answer.Flash → isFlash a ≡ true
+unfolding answerNumber
 told-flash answer.Taken h = absurd (omega arith)
 told-flash answer.Flash h = refl
 told-flash (answer.Finished p) h = absurd (omega arith)
@@ -303,10 +303,10 @@ module _ (im sheet : List ℕ) (s : Session) (e : ℕ) where
   second-writes (mode.Password n) q = refl
 
   pub event-promises : EventPromises im sheet s e
-  unfolding eventTold
+  unfolding eventAnswer
   event-promises = record {
     flash = λ h. event-flash (told-flash _ h);
-    writes = λ n. event-writes (λ p a. n p (ap told a));
+    writes = λ n. event-writes (λ p a. n p (ap answerNumber a));
     flash-sheet = λ h. event-writes (λ p a. absurd (false≢true (sym (ap isFlash a) ∙ told-flash _ h)));
     sheet-length =
         by-refusal im sheet s e (λ (r : Stepped) (x : List ℕ). length x ≡ length sheet) (λ _. sheet-stays-long im sheet s e) (λ _. refl);

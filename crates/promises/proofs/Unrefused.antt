@@ -26,14 +26,14 @@ use Rattle.acceptance.proofs.Acceptance.{accepted-exactly-when-well-formed}
 use Rattle.session.specs.Session.{opened}
 use Rattle.session.specs.Events.{second}
 use Rattle.session.specs.Fits.{shapeFits, sessionFits}
-use Rattle.session.specs.Steps.{withIdle, isRefused}
+use Rattle.session.specs.Answers.{withIdle, isRefused}
 use Rattle.session.specs.Browsing.{browseStep}
 use Rattle.session.specs.Visits.{followedSheet, visitSheet}
-use Rattle.session.specs.Event.{stepIn, sheetIn, stepOf, sheetOf}
+use Rattle.session.specs.Step.{stepIn, sheetIn, stepOf, sheetOf}
 use Rattle.session.specs.declared.session.Mode.{Mode}
 use Rattle.session.specs.declared.session.Mode.the-variants as mode
 use Rattle.session.specs.declared.session.Session.{Session}
-use Rattle.session.specs.declared.step.Stepped.{Stepped}
+use Rattle.session.specs.declared.answer.Stepped.{Stepped}
 use Rattle.handset.specs.Refusals.{sessionRefusal}
 use Rattle.handset.specs.Open.{openRefusal, openAnswer, openSheet, defaultsWritten}
 use Rattle.handset.specs.Event.{eventRefusal, eventStep, eventSheet}

@@ -11,10 +11,10 @@ use Rattle.laws.specs.Choice.{if_then_else_, _=?_, _≤?_}
 use Rattle.laws.proofs.Cases.{if-ind, if-min, and-i, and-l, and-r}
 use Rattle.laws.proofs.Overwriting.{length-fit}
 use Rattle.field.specs.Formats.{formatOf, digitsIn, bitsIn}
-use Rattle.field.specs.Table.{profileOf}
+use Rattle.field.specs.Profiles.{profileOf}
 use Rattle.field.specs.Values.{numberOf}
 use Rattle.field.specs.Cells.{inRange, workOf, started}
-use Rattle.field.specs.Settings.{goodSettings, settingsFit}
+use Rattle.field.specs.Settings.{kindFits, settingsFit}
 use Rattle.field.specs.Sheet.{begun}
 use Rattle.keys.specs.Keys as key
 use Rattle.field.specs.declared.kind.Format.{Format}
@@ -61,7 +61,7 @@ format-digited code =
 
 -- a kind that has a cell where its settings are good
 record Celled (k : Kind) : Type 0 where
-  cell : goodSettings k ≡ true → 0 < profileOf k .cells
+  cell : kindFits k ≡ true → 0 < profileOf k .cells
 
 -- a choice of kinds, and each kind
 by-celled : (t : Bool) {x y : Kind} → (t ≡ true → Celled x) → (t ≡ false → Celled y) → Celled (if t then x else y)
@@ -72,7 +72,7 @@ unfolding profileOf
 integer-celled code = record { cell = λ _. omega (arith, format-digited code .digit) }
 
 switch-celled : (n : ℕ) → Celled (Switch n)
-unfolding profileOf goodSettings bitsIn
+unfolding profileOf kindFits bitsIn
 switch-celled n = record { cell = λ h. if-min _ (leb-true 1 n (and-l _ _ h)) (omega arith) }
 
 counter-celled : (s : CounterSettings) → Celled (Counter s)

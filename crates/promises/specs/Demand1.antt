@@ -12,13 +12,13 @@ use Rattle.acceptance.specs.Faults.{Refused}
 use Rattle.session.specs.Session.{closed}
 use Rattle.session.specs.Events.{second}
 use Rattle.session.specs.Fits.{shapeFits, sessionFits}
-use Rattle.session.specs.Steps.{told}
+use Rattle.session.specs.Answers.{answerNumber}
 use Rattle.session.specs.declared.session.Session.{Session}
-use Rattle.session.specs.declared.step.Answer.the-variants as answer
+use Rattle.session.specs.declared.answer.Answer.the-variants as answer
 use Rattle.picture.specs.Cursor as cursor
 use Rattle.picture.specs.declared.cursor.EditCursor.the-variants.{Nowhere}
 use Rattle.handset.specs.Open.{openRefusal, openAnswer, openSheet}
-use Rattle.handset.specs.Event.{eventRefusal, refusedWith, eventStep, eventTold, eventSheet}
+use Rattle.handset.specs.Event.{eventRefusal, refusedWith, eventStep, eventAnswer, eventSheet}
 use Rattle.handset.specs.Draw.{drawRefusal, drawCursor, drawnPicture}
 use Rattle.handset.specs.OptionText.{reached, itemsIn, textRefusal, optionText}
 use Rattle.journal.specs.Rules.{fieldAt}
@@ -69,14 +69,14 @@ pub record EventRefused (im sheet : List ℕ) (s : Session) (e : ℕ) : Type 0 w
   -- (by definition) returns the session that it got, with its number
   pub returns : eventStep im sheet s e ≡ refusedWith s (eventRefusal im (length sheet) s e)
   -- (by definition) tells it as 01's number of a refusal
-  pub tells : eventTold im sheet s e ≡ told (answer.Refused (eventRefusal im (length sheet) s e))
+  pub tells : eventAnswer im sheet s e ≡ answerNumber (answer.Refused (eventRefusal im (length sheet) s e))
   -- (by definition) alters no byte of the sheet
   pub keeps : eventSheet im sheet s e ≡ sheet
 
 -- a refused Draw; it is lent the sheet for reading only
 pub record DrawRefused (im sheet : List ℕ) (s : Session) (picture : List ℕ) : Type 0 where
   -- (by definition) has no edit cursor
-  pub nowhere : drawCursor im (length sheet) s (length picture) ≡ cursor.told Nowhere
+  pub nowhere : drawCursor im (length sheet) s (length picture) ≡ cursor.cursorPlace Nowhere
   -- (by definition) alters no byte of the picture
   pub keeps : drawnPicture im sheet s picture ≡ picture
 

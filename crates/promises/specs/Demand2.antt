@@ -13,14 +13,14 @@ use Rattle.cmf.specs.Grammar.{WellFormed}
 use Rattle.acceptance.specs.Check.{refusalOf}
 use Rattle.session.specs.Session.{noLevel, opened}
 use Rattle.session.specs.Fits.{shapeFits, cursorHead}
-use Rattle.session.specs.Steps.{told}
-use Rattle.session.specs.Event.{stepOf, sheetOf}
+use Rattle.session.specs.Answers.{answerNumber}
+use Rattle.session.specs.Step.{stepOf, sheetOf}
 use Rattle.session.specs.declared.session.Session.{Session}
 use Rattle.picture.specs.Rows.{pictureOf}
 use Rattle.picture.specs.Cursor as cursor
 use Rattle.picture.specs.declared.cursor.EditCursor.{EditCursor}
 use Rattle.handset.specs.Open.{openRefusal, openAnswer, openSheet}
-use Rattle.handset.specs.Event.{eventRefusal, eventStep, eventTold, eventSheet}
+use Rattle.handset.specs.Event.{eventRefusal, eventStep, eventAnswer, eventSheet}
 use Rattle.handset.specs.Draw.{drawRefusal, drawCursor, drawnPicture}
 use Rattle.handset.specs.OptionText.{itemsIn, ItemIs, textRefusal, optionText}
 use Rattle.journal.specs.Rules.{fieldAt, IsField, Beside}
@@ -58,7 +58,7 @@ pub record EventDone (im sheet : List ℕ) (s : Session) (e : ℕ) : Type 0 wher
   -- (by definition) is the step that 01's rules give: the session, the answer
   pub steps : eventStep im sheet s e ≡ stepOf im sheet s e
   -- (by definition) the number of that answer
-  pub tells : eventTold im sheet s e ≡ told (stepOf im sheet s e .answer)
+  pub tells : eventAnswer im sheet s e ≡ answerNumber (stepOf im sheet s e .answer)
   -- (by definition) the sheet
   pub stores : eventSheet im sheet s e ≡ sheetOf im sheet s e
 
@@ -73,10 +73,10 @@ pub record DrawDone (im sheet : List ℕ) (s : Session) (picture : List ℕ) : T
 pub record ToldApart : Type 0 where
   -- (theorem) no two answers of Event share a number, be it on two images
   pub events : (im sheet : List ℕ) (s : Session) (e : ℕ) (im′ sheet′ : List ℕ) (s′ : Session) (e′ : ℕ)
-      → eventTold im sheet s e ≡ eventTold im′ sheet′ s′ e′
+      → eventAnswer im sheet s e ≡ eventAnswer im′ sheet′ s′ e′
       → eventStep im sheet s e .answer ≡ eventStep im′ sheet′ s′ e′ .answer
   -- (theorem) no two edit cursors share theirs
-  pub cursors : (a b : EditCursor) → cursor.told a ≡ cursor.told b → a ≡ b
+  pub cursors : (a b : EditCursor) → cursor.cursorPlace a ≡ cursor.cursorPlace b → a ≡ b
 
 -- an option text
 pub record Texts (im : List ℕ) : Type 0 where

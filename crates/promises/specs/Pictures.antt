@@ -12,7 +12,7 @@ use Rattle.cmf.specs.Places.{componentsOf, lineAt, lineCount}
 use Rattle.session.specs.declared.session.Mode.the-variants as mode
 use Rattle.session.specs.declared.session.Session.{Session}
 use Rattle.picture.specs.Rows.{visiting}
-use Rattle.picture.specs.Cursor.{told}
+use Rattle.picture.specs.Cursor.{cursorPlace}
 use Rattle.picture.specs.declared.cursor.EditCursor.the-variants.{Nowhere, At}
 use Rattle.handset.specs.Draw.{drawRefusal, drawCursor, drawnPicture}
 
@@ -29,7 +29,7 @@ pub record OnShownLine (im : List ℕ) (s : Session) (p : ℕ) : Type 0 where
 -- visited one, which shows its working copy
 pub record AgreeWhereShown (im : List ℕ) (s : Session) (a b : List ℕ) : Type 0 where
   pub long : length a ≡ length b
-  pub bytes : (p : ℕ) → OnShownLine im s p → componentAt im p .holds ≡ true → visiting (s .mode) p ≡ false
+  pub bytes : (p : ℕ) → OnShownLine im s p → componentAt im p .fielded ≡ true → visiting (s .mode) p ≡ false
       → ownBytes (componentAt im p .field) a ≡ ownBytes (componentAt im p .field) b
 
 -- 01, Picture: a data cell, in a row below row 0 and between the mark at the left and the one at the right
@@ -43,14 +43,14 @@ pub record DataCell (s : Session) (row column : ℕ) : Type 0 where
 pub record DrawPromises (im sheet : List ℕ) (s : Session) (picture : List ℕ) : Type 0 where
   -- the edit cursor lies inside the picture, on a data cell
   pub cursor-inside : (row column : ℕ)
-      → drawCursor im (length sheet) s (length picture) ≡ told (At row column) → DataCell s row column
+      → drawCursor im (length sheet) s (length picture) ≡ cursorPlace (At row column) → DataCell s row column
   -- a visit has one
   pub cursor-there : drawRefusal im (length sheet) s (length picture) ≡ 0
       → (p : ImagePlace) → s .mode ≡ mode.Visit p
-      → drawCursor im (length sheet) s (length picture) ≡ told Nowhere → ⊥
+      → drawCursor im (length sheet) s (length picture) ≡ cursorPlace Nowhere → ⊥
   -- and nothing else has
   pub cursor-only : ((p : ImagePlace) → s .mode ≡ mode.Visit p → ⊥)
-      → drawCursor im (length sheet) s (length picture) ≡ told Nowhere
+      → drawCursor im (length sheet) s (length picture) ≡ cursorPlace Nowhere
   -- the picture depends on no byte of the sheet but those of fields on shown lines
   pub shows : (other : List ℕ) → AgreeWhereShown im s sheet other
       → drawnPicture im sheet s picture ≡ drawnPicture im other s picture

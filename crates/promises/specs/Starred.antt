@@ -7,7 +7,7 @@ use lib.ListN.{length}
 use Rattle.laws.specs.Choice.{if_then_else_, _=?_}
 use Rattle.session.specs.Session.{closed}
 use Rattle.session.specs.Events.{up, down, left, right, enter, second}
-use Rattle.session.specs.Steps.{told}
+use Rattle.session.specs.Answers.{answerNumber}
 use Rattle.session.specs.declared.session.Session.{Session}
 use Rattle.handset.specs.Open.{openAnswer, openSheet}
 use Rattle.handset.specs.declared.open.Opened.{Opened}
@@ -21,7 +21,7 @@ use Rattle.promises.specs.Examples.{pictured, counter, wideCounter, cloc
 pub data Seen : Type 0 where
   -- Open is refused: its number, the session that it gives, and the sheet
   refused : ℕ → Session → List ℕ → Seen
-  -- else the number of each answer (`told`); and at the end the sheet, and the image place and the cursor
+  -- else the number of each answer (`answerNumber`); and at the end the sheet, and the image place and the cursor
   -- line, from 0, of the shown table
   gives : List ℕ → List ℕ → ℕ → ℕ → Seen
 
@@ -37,7 +37,7 @@ pub record Case : Type 0 where
 -- what is seen of a sitting that begins with t, and of an opening
 abbrev pub seenIn : List ℕ → Sitting → List ℕ → Seen
 seenIn im t es =
-    Seen.gives (map (λ (x : Answered). told (x .answer)) (answeredIn im t es)) (played im t es .sheet)
+    Seen.gives (map (λ (x : Answered). answerNumber (x .answer)) (answeredIn im t es)) (played im t es .sheet)
     (played im t es .session .here .table .0) (played im t es .session .here .cursor)
 
 abbrev pub seenBy : Opened → List ℕ → Seen → Seen

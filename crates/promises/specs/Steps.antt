@@ -10,12 +10,12 @@ use Rattle.laws.specs.Bytes.{byteAt}
 use Rattle.field.specs.declared.kind.ImagePlace.{ImagePlace}
 use Rattle.session.specs.Events.{lastDigitKey, second}
 use Rattle.session.specs.Fits.{cursorHead}
-use Rattle.session.specs.Steps.{told, taken, withIdle}
+use Rattle.session.specs.Answers.{answerNumber, taken, withIdle}
 use Rattle.session.specs.Passwords.{rightTo}
 use Rattle.session.specs.declared.session.Mode.the-variants as mode
 use Rattle.session.specs.declared.session.Session.{Session}
-use Rattle.session.specs.declared.step.Answer.the-variants as answer
-use Rattle.handset.specs.Event.{eventRefusal, eventStep, eventTold, eventSheet}
+use Rattle.session.specs.declared.answer.Answer.the-variants as answer
+use Rattle.handset.specs.Event.{eventRefusal, eventStep, eventAnswer, eventSheet}
 
 -- 01, Keys, password: the last digit of an entry, e, leads from s to browsing, z: not all digits are right
 pub record EntryFails (im : List ℕ) (s : Session) (e : ℕ) (z : Session) : Type 0 where
@@ -47,11 +47,11 @@ Unchanged im s e z = (z ≡ withIdle s 0) ⊎ EntryFails im s e z
 -- every clause is a theorem
 pub record EventPromises (im sheet : List ℕ) (s : Session) (e : ℕ) : Type 0 where
   -- a flash changes nothing but the idle count, and what ends a password entry that fails
-  pub flash : eventTold im sheet s e ≡ told answer.Flash → Unchanged im s e (eventStep im sheet s e .session)
+  pub flash : eventAnswer im sheet s e ≡ answerNumber answer.Flash → Unchanged im s e (eventStep im sheet s e .session)
   -- it leaves the sheet
-  pub flash-sheet : eventTold im sheet s e ≡ told answer.Flash → eventSheet im sheet s e ≡ sheet
+  pub flash-sheet : eventAnswer im sheet s e ≡ answerNumber answer.Flash → eventSheet im sheet s e ≡ sheet
   -- so does every other answer but finished
-  pub writes : ((p : ImagePlace) → eventTold im sheet s e ≡ told (answer.Finished p) → ⊥)
+  pub writes : ((p : ImagePlace) → eventAnswer im sheet s e ≡ answerNumber (answer.Finished p) → ⊥)
       → eventSheet im sheet s e ≡ sheet
   -- and no answer goes with a sheet of another length
   pub sheet-length : length (eventSheet im sheet s e) ≡ length sheet

@@ -5,7 +5,7 @@ use mathlib.Core.Path.{_≡_}
 use mathlib.Core.Bool.{true, false}
 use mathlib.Core.List.{List}
 use lib.ListN.{length}
-use Rattle.session.specs.Steps.{isRefused}
+use Rattle.session.specs.Answers.{isRefused}
 use Rattle.session.specs.Events.{second}
 use Rattle.session.specs.Fits.{sessionFits}
 use Rattle.handset.specs.Event.{eventRefusal}

@@ -4,7 +4,7 @@ use mathlib.Core.Path.{_≡_, refl}
 use mathlib.Core.List.{List, [], _∷_, map}
 use Rattle.laws.specs.Choice.{if_then_else_}
 use Rattle.session.specs.Events.{up, left, right, enter, second}
-use Rattle.session.specs.declared.step.Answer.the-variants as answer
+use Rattle.session.specs.declared.answer.Answer.the-variants as answer
 use Rattle.journal.specs.Journal.{Answered, answered}
 use Rattle.protected.specs.Protected.{entryMore, entryFrom, entryKeys}
 

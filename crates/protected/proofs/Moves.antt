@@ -21,19 +21,19 @@ use Rattle.cmf.specs.declared.place.Found.{Found}
 use Rattle.cmf.specs.declared.place.Found.the-variants.{At, Nothing}
 use Rattle.acceptance.proofs.Acceptance.{accepted-exactly-when-well-formed}
 use Rattle.session.specs.Events.{lastDigitKey, right, second}
-use Rattle.session.specs.Steps.{withIdle}
+use Rattle.session.specs.Answers.{withIdle}
 use Rattle.session.specs.Fits.{cursorLine, cursorHead, modeFits, entryFits, sessionFits}
 use Rattle.session.specs.Seconds.{browseSecond, entrySecond}
 use Rattle.session.specs.Browsing.{upStep, downStep, leftStep, descended, rightStep, enterAt, enterStep, browseStep}
-use Rattle.session.specs.Passwords.{rightTo, entered, lastDigit, digitStep, entryStep}
+use Rattle.session.specs.Passwords.{rightTo, entryOver, lastDigit, digitStep, entryStep}
 use Rattle.session.specs.Visits.{movedTo, movedOn, followed, visitStep}
-use Rattle.session.specs.Event.{stepIn}
+use Rattle.session.specs.Step.{stepIn}
 use Rattle.session.specs.declared.session.Mode.{Mode}
 use Rattle.session.specs.declared.session.Mode.the-variants as mode
 use Rattle.session.specs.declared.session.Session.{Session}
-use Rattle.session.specs.declared.step.Answer.{Answer}
-use Rattle.session.specs.declared.step.Answer.the-variants as answer
-use Rattle.session.specs.declared.step.Stepped.{Stepped}
+use Rattle.session.specs.declared.answer.Answer.{Answer}
+use Rattle.session.specs.declared.answer.Answer.the-variants as answer
+use Rattle.session.specs.declared.answer.Stepped.{Stepped}
 use Rattle.handset.specs.Event.{eventRefusal, eventStep}
 use Rattle.handset.proofs.Stepping.{EventGranted, event-granted}
 use Rattle.journal.specs.Journal.{answered, ignored}
@@ -237,7 +237,7 @@ module _ (im : List ℕ) (s : Session) (e : ℕ) where
 
       -- the last digit, and all are right
       unlock-moves : byteAt im (cursorHead im (s .here) .password) ≡ suc n → rightTo im (cursorHead im (s .here) .password + 1) typed (suc n) ≡ true
-          → Move im s e (descended (entered (withIdle s 0) typed) (cursorHead im (s .here) .table))
+          → Move im s e (descended (entryOver (withIdle s 0) typed) (cursorHead im (s .here) .table))
       unfolding descended
       unlock-moves q h =
           by-move _

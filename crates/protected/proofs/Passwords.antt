@@ -29,7 +29,7 @@ pub record Stands (im : List ℕ) (at : ℕ) : Type 0 where
 
 -- the password of a line that is protected by a good one; a protected line has a submenu
 pub record Guarded (im : List ℕ) (h : Head) : Type 0 where
-  pub guarded : h .protected ≡ true → h .good ≡ true → Stands im (h .password)
+  pub guarded : h .protected ≡ true → h .typeable ≡ true → Stands im (h .password)
   pub submenu : h .protected ≡ true → h .submenu ≡ true
 
 module _ (im : List ℕ) where

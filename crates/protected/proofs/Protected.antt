@@ -17,8 +17,8 @@ use Rattle.session.specs.Fits.{cursorHead}
 use Rattle.session.specs.declared.session.Level.{Level}
 use Rattle.session.specs.declared.session.Mode.the-variants as mode
 use Rattle.session.specs.declared.session.Session.{Session}
-use Rattle.session.specs.declared.step.Answer.the-variants as answer
-use Rattle.session.specs.declared.step.Stepped.{Stepped}
+use Rattle.session.specs.declared.answer.Answer.the-variants as answer
+use Rattle.session.specs.declared.answer.Stepped.{Stepped}
 use Rattle.handset.specs.Open.{openRefusal, openAnswer}
 use Rattle.handset.specs.Event.{eventStep}
 use Rattle.journal.specs.Journal.{answered}

@@ -7,7 +7,7 @@ use mathlib.Core.List.{List, [], _∷_, _++_, map}
 use lib.ListN.{getD}
 use Rattle.laws.specs.Choice.{if_then_else_, _=?_, _≤?_}
 use Rattle.cmf.specs.Readers.{textBytes}
-use Rattle.session.specs.Steps.{isFlash}
+use Rattle.session.specs.Answers.{isFlash}
 use Rattle.session.specs.Session.{noLevel}
 use Rattle.session.specs.Events.{lastDigitKey, right}
 use Rattle.session.specs.Fits.{cursorHead}
@@ -16,7 +16,7 @@ use Rattle.session.specs.declared.session.Level.{Level}
 use Rattle.session.specs.declared.session.Mode.{Mode}
 use Rattle.session.specs.declared.session.Mode.the-variants as mode
 use Rattle.session.specs.declared.session.Session.{Session}
-use Rattle.session.specs.declared.step.Answer.the-variants as answer
+use Rattle.session.specs.declared.answer.Answer.the-variants as answer
 use Rattle.journal.specs.Journal.{Answered, ignored}
 use Rattle.journal.specs.Sitting.{Sitting, next, answerTo, played, answeredIn}
 

@@ -7,7 +7,7 @@ use native.Mathlib.Omega.{arith}
 use lib.ListN.{length, length-append}
 use Rattle.laws.specs.Bytes.{wordAt}
 use Rattle.laws.proofs.Cases.{if-true, if-false}
-use Rattle.field.specs.Table.{profileOf}
+use Rattle.field.specs.Profiles.{profileOf}
 use Rattle.field.specs.declared.record.Field.{Field}
 use Rattle.cmf.specs.Limits.{mostFields, longestSheet}
 use Rattle.cmf.specs.Readers.{evenFrom, componentAt}
@@ -15,11 +15,11 @@ use Rattle.cmf.specs.Places.{componentsFrom}
 use Rattle.cmf.specs.Layouts.{Aligned, Component, optionAt, lastBit}
 use Rattle.cmf.proofs.Agreement.{Agree}
 use Rattle.cmf.proofs.Agreeing.{agree}
-use Rattle.quick.specs.declared.stage.Stage.{Stage}
+use Rattle.quick.specs.declared.tally.Tally.{Tally}
 use Rattle.acceptance.specs.declared.index.Entry.{Entry}
 use Rattle.acceptance.specs.Check.{State, fine, andThen, padded, entryOf, onComponent, onComponents}
-use Rattle.quick.specs.Accept.{Claimed, Claims, Passes, Covers, Stands, Reaches, PartsLeft, AmongParts}
-use Rattle.acceptance.proofs.Stood.{stood, put}
+use Rattle.quick.specs.Accept.{Claimed, Claims, Passes, Covers, AsFar, Reaches, PartsLeft, AmongParts}
+use Rattle.acceptance.proofs.CameTo.{cameTo, put}
 use Rattle.acceptance.proofs.Takes.{Takes, sheet-is}
 use Rattle.acceptance.proofs.Steps.{padded-reads, component-goes}
 use Rattle.quick.proofs.Marks.{covers-apart, covers-kept, covers-add}
@@ -27,14 +27,14 @@ use Rattle.quick.proofs.Marks.{covers-apart, covers-kept, covers-add}
 -- ---- states that stand
 
 -- a state that stands has refused nothing, so the next step is taken
-pub stands-then : {w : Stage} {m : List ℕ} {x : State} (y : State) → Stands w m x → andThen x y ≡ y
+pub stands-then : {w : Tally} {m : List ℕ} {x : State} (y : State) → AsFar w m x → andThen x y ≡ y
 unfolding andThen fine
 stands-then y t = if-true y _ (rw (t .is) refl)
 
 -- a state that is known stands
 pub stands-at :
-    {w : Stage} {m : List ℕ} (x : State) (at lines : ℕ) (es : List Entry) → x ≡ stood at lines es → at ≡ w .at → lines ≡ w .lines → length es ≡ w .fields →
-    Covers m es → Stands w m x
+    {w : Tally} {m : List ℕ} (x : State) (at lines : ℕ) (es : List Entry) → x ≡ cameTo at lines es → at ≡ w .at → lines ≡ w .lines → length es ≡ w .fields →
+    Covers m es → AsFar w m x
 stands-at x at lines es e a l n c = rw e (record { is = rw (a, l) refl; count = n; covers = c })
 
 module _ (im : List ℕ) where
@@ -62,14 +62,14 @@ module _ (im : List ℕ) where
 
   -- an option
   pub option-passes :
-      {sheet p end from : ℕ} {v : Stage} {old new : List ℕ} (good : Bool) → Component im p end (optionAt im p ∷ []) → from ≡ wordAt im (p + 4) → v .fields < mostFields → Claimed sheet old new from 1 →
-      Passes im sheet p v (record { good = good; at = end; lines = v .lines; fields = v .fields + 1 }) old new
+      {sheet p end from : ℕ} {v : Tally} {old new : List ℕ} (sure : Bool) → Component im p end (optionAt im p ∷ []) → from ≡ wordAt im (p + 4) → v .fields < mostFields → Claimed sheet old new from 1 →
+      Passes im sheet p v (record { sure = sure; at = end; lines = v .lines; fields = v .fields + 1 }) old new
   unfolding profileOf
-  option-passes {p = p} good c e n k = record { fields = optionAt im p ∷ []; component = c; lines = refl; claims = Claims.one n refl (rw e at k) }
+  option-passes {p = p} sure c e n k = record { fields = optionAt im p ∷ []; component = c; lines = refl; claims = Claims.one n refl (rw e at k) }
 
   component-stands :
-      {sheet : ℕ} {v w : Stage} {old new : List ℕ} (p : ℕ) (s : State) → sheet ≤ longestSheet → Aligned im 0 (v .at) p → Passes im sheet p v w old new → Stands v old s →
-      Stands w new (onComponent im sheet mostFields p s)
+      {sheet : ℕ} {v w : Tally} {old new : List ℕ} (p : ℕ) (s : State) → sheet ≤ longestSheet → Aligned im 0 (v .at) p → Passes im sheet p v w old new → AsFar v old s →
+      AsFar w new (onComponent im sheet mostFields p s)
   component-stands {sheet} {v} {w} {old} {new} p s h a q t =
       let es : List Entry = s .fields in
       let g = takes-claims es h (t .count) (t .covers) (q .claims) in
@@ -83,10 +83,10 @@ module _ (im : List ℕ) where
 
   -- ---- the components of a line: those that are left, done to a state that stands, are the whole
 
-  pub going-start : (sheet : ℕ) (u : Stage) (m : List ℕ) → AmongParts im sheet u u m m
+  pub going-start : (sheet : ℕ) (u : Tally) (m : List ℕ) → AmongParts im sheet u u m m
   going-start sheet u m = record { go = λ s h t. record { here = s; fuel = length im + 1; stands = t; rest = refl; enough = omega arith } }
 
-  module _ {sheet : ℕ} {v w : Stage} {mid new : List ℕ} (a : Aligned im 0 (v .at) (evenFrom (v .at))) (q : Passes im sheet (evenFrom (v .at)) v w mid new) where
+  module _ {sheet : ℕ} {v w : Tally} {mid new : List ℕ} (a : Aligned im 0 (v .at) (evenFrom (v .at))) (q : Passes im sheet (evenFrom (v .at)) v w mid new) where
     abbrev p : ℕ
     p = evenFrom (v .at)
 
@@ -131,20 +131,20 @@ module _ (im : List ℕ) where
 
     -- the last one
     last-go : (first : ℕ) (s : State) → sheet ≤ longestSheet → lastBit im p ≡ 1 → PartsLeft im sheet first s v mid →
-        Stands w new (onComponents im sheet mostFields (componentsFrom im (length im + 1) first) s)
+        AsFar w new (onComponents im sheet mostFields (componentsFrom im (length im + 1) first) s)
     unfolding componentsFrom onComponents
     last-go first s h z g = by (g .fuel) refl
       where
-        by : (k : ℕ) → g .fuel ≡ k → Stands w new (onComponents im sheet mostFields (componentsFrom im (length im + 1) first) s)
+        by : (k : ℕ) → g .fuel ≡ k → AsFar w new (onComponents im sheet mostFields (componentsFrom im (length im + 1) first) s)
         by zero e = absurd (omega (arith, g .enough, inside))
         by (suc k) e =
             let t = component-stands p (g .here) h a q (g .stands) in
             rw (g .rest, e, if-true [] (componentsFrom im k (componentAt im p .next)) (last-is (componentAt im p .last) refl .1 z), stands-then (onComponent im sheet mostFields p (g .here)) t) t
 
-    pub going-more : {u : Stage} {old : List ℕ} → lastBit im p ≡ 0 → AmongParts im sheet u v old mid → AmongParts im sheet u w old new
+    pub going-more : {u : Tally} {old : List ℕ} → lastBit im p ≡ 0 → AmongParts im sheet u v old mid → AmongParts im sheet u w old new
     going-more {u} z g = record { go = λ s h t. more-go (evenFrom (u .at)) s h z (g .go s h t) }
 
     pub going-last :
-        {u : Stage} {old : List ℕ} → lastBit im p ≡ 1 → AmongParts im sheet u v old mid →
+        {u : Tally} {old : List ℕ} → lastBit im p ≡ 1 → AmongParts im sheet u v old mid →
         Reaches sheet (onComponents im sheet mostFields (componentsFrom im (length im + 1) (evenFrom (u .at)))) u w old new
     going-last {u} z g = record { reach = λ s h t. last-go (evenFrom (u .at)) s h z (g .go s h t) }

@@ -14,17 +14,17 @@ use Rattle.cmf.specs.Grammar.{isLast, hasSubmenu, nextLine, submenuTable}
 use Rattle.cmf.specs.declared.title.Title as read-title
 use Rattle.cmf.proofs.Agreement.{Agree, HeadReads}
 use Rattle.cmf.proofs.Agreeing.{agree}
-use Rattle.quick.specs.declared.stage.Stage.{Stage}
+use Rattle.quick.specs.declared.tally.Tally.{Tally}
 use Rattle.acceptance.specs.Check.{State, onComponents, onHead, onTitle, onSubmenu, onBody, onLine, onLines, onTable, start, walked, prologCode, checked, refusalOf}
-use Rattle.quick.specs.Accept.{Placed, Covers, Stands, Reaches, titled, headed, AmongLines}
+use Rattle.quick.specs.Accept.{Placed, Covers, AsFar, Reaches, titled, headed, AmongLines}
 use Rattle.acceptance.proofs.Steps.{title-goes, head-goes}
 use Rattle.acceptance.proofs.Line.{last-marked, more-marked, submenu-marked, plain-marked}
 use Rattle.acceptance.proofs.Tables.{lines-last, lines-more}
 use Rattle.quick.proofs.Accepting.{stands-then, stands-at}
 
 -- the stage behind a submenu
-abbrev pub returned : Stage → Stage → Stage
-returned body t = record { good = t .good; at = body .at; lines = t .lines; fields = t .fields }
+abbrev pub returned : Tally → Tally → Tally
+returned body t = record { sure = t .sure; at = body .at; lines = t .lines; fields = t .fields }
 
 module _ (im : List ℕ) (sheet : ℕ) where
   abbrev A : Agree im
@@ -41,7 +41,7 @@ module _ (im : List ℕ) (sheet : ℕ) where
 
   -- ---- a line
 
-  module _ {n before p end : ℕ} {w b : Stage} {old mid : List ℕ} (few : n < mostLinesOfTable) (q : Placed im n before p w end) (c : Reaches sheet (parts (evenFrom end)) (headed w end) b old mid) where
+  module _ {n before p end : ℕ} {w b : Tally} {old mid : List ℕ} (few : n < mostLinesOfTable) (q : Placed im n before p w end) (c : Reaches sheet (parts (evenFrom end)) (headed w end) b old mid) where
     pub reads : headAt im p .refusal ≡ 0
     reads = A .head-is (q .head) .refusal
 
@@ -51,20 +51,20 @@ module _ (im : List ℕ) (sheet : ℕ) where
     first-component : headAt im p .component ≡ evenFrom end
     first-component = known .component ∙ ap evenFrom (A .head-is (q .head) .ends)
 
-    module _ (s : State) (h : sheet ≤ longestSheet) (t : Stands w old s) (submenu : ℕ → State → State) where
+    module _ (s : State) (h : sheet ≤ longestSheet) (t : AsFar w old s) (submenu : ℕ → State → State) where
       abbrev x : State
       x = onHead im sheet mostFields n before p s
 
       abbrev y : State
       y = onComponents im sheet mostFields (componentsOf im p) x
 
-      head-stands : Stands (headed w end) old x
+      head-stands : AsFar (headed w end) old x
       head-stands =
           stands-at x end (w .lines + 1) (s .fields)
           (ap (onHead im sheet mostFields n before p) (t .is) ∙ head-goes im A sheet mostFields n before p end (w .at) (w .lines) (s .fields) (q .head) (q .aligned) few (q .room))
           refl refl (t .count) (t .covers)
 
-      body-stands : Stands b mid y
+      body-stands : AsFar b mid y
       unfolding componentsOf
       body-stands = rw first-component (c .reach x h head-stands)
 
@@ -81,7 +81,7 @@ module _ (im : List ℕ) (sheet : ℕ) where
     }
 
     pub deep-line :
-        (below : ℕ) {r : Stage} {new : List ℕ} → hasSubmenu im p ≡ 1 → Reaches sheet (table below (submenuTable im p)) b r mid new → Reaches sheet (line below n before p) w (returned b r) old new
+        (below : ℕ) {r : Tally} {new : List ℕ} → hasSubmenu im p ≡ 1 → Reaches sheet (table below (submenuTable im p)) b r mid new → Reaches sheet (line below n before p) w (returned b r) old new
     unfolding onSubmenu if_then_else_
     deep-line below {r} {new} z d = record {
       reach = λ s h t.
@@ -89,7 +89,7 @@ module _ (im : List ℕ) (sheet : ℕ) where
           let v = d .reach (y s h t (onTable im sheet mostFields below)) h u in
           stands-at _ (b .at) (r .lines) (onTable im sheet mostFields below (submenuTable im p) (y s h t (onTable im sheet mostFields below)) .fields)
           (line-is s h t (onTable im sheet mostFields below) ∙ if-true _ _ (submenu-marked im A known z)
-          ∙ rw (known .table, ap (λ (o : State). o .walk) (v .is), ap (λ (o : State). o .walk .at) (u .is)) refl)
+          ∙ rw (known .table, ap (λ (o : State). o .progress) (v .is), ap (λ (o : State). o .progress .at) (u .is)) refl)
           refl refl (v .count) (v .covers);
     }
 
@@ -99,10 +99,10 @@ module _ (im : List ℕ) (sheet : ℕ) where
     abbrev pub lines : ℕ → ℕ → List ℕ → State → State
     lines n before ps = onLines im sheet mostFields (onTable im sheet mostFields below) n before ps
 
-    pub going-start : (u : Stage) (m : List ℕ) → AmongLines im sheet below first u m 0 0 first u m
+    pub going-start : (u : Tally) (m : List ℕ) → AmongLines im sheet below first u m 0 0 first u m
     going-start u m = record { go = λ s h t. record { here = s; stands = t; rest = refl } }
 
-    module _ {u : Stage} {old : List ℕ} {n before p : ℕ} {v w : Stage} {mid new : List ℕ} (few : n < mostLinesOfTable) (z : headAt im p .refusal ≡ 0) (c : Reaches sheet (line below n before p) v w mid new) (g : AmongLines im sheet below first u old n before p v mid) where
+    module _ {u : Tally} {old : List ℕ} {n before p : ℕ} {v w : Tally} {mid new : List ℕ} (few : n < mostLinesOfTable) (z : headAt im p .refusal ≡ 0) (c : Reaches sheet (line below n before p) v w mid new) (g : AmongLines im sheet below first u old n before p v mid) where
       one-more : mostLinesOfTable + 1 - n ≡ suc (mostLinesOfTable - n)
       one-more = omega arith
 
@@ -136,7 +136,7 @@ module _ (im : List ℕ) (sheet : ℕ) where
   -- ---- a table
 
   pub table-reaches :
-      (t : ℕ) {left below : ℕ} {title : read-title.Title} {v w r : Stage} {old new : List ℕ} → left ≡ suc below → title ≡ titleAt im t → title .refusal ≡ 0 →
+      (t : ℕ) {left below : ℕ} {title : read-title.Title} {v w r : Tally} {old new : List ℕ} → left ≡ suc below → title ≡ titleAt im t → title .refusal ≡ 0 →
       v ≡ titled w (title .end) → Reaches sheet (lines below (title .line) 0 0 (linesFrom im (mostLinesOfTable + 1) (title .line))) v r old new →
       Reaches sheet (table left t) w r old new
   unfolding onTable linesOf
@@ -154,9 +154,9 @@ module _ (im : List ℕ) (sheet : ℕ) where
   -- ---- the whole image
 
   pub nothing-refused :
-      (m new : List ℕ) (r : Stage) → sheet ≤ longestSheet → prologCode im ≡ 0 →
-      Reaches sheet (table deepestTable prologBytes) (record { good = true; at = 0; lines = 0; fields = 0 }) r m new → refusalOf im sheet ≡ 0
+      (m new : List ℕ) (r : Tally) → sheet ≤ longestSheet → prologCode im ≡ 0 →
+      Reaches sheet (table deepestTable prologBytes) (record { sure = true; at = 0; lines = 0; fields = 0 }) r m new → refusalOf im sheet ≡ 0
   unfolding refusalOf checked walked
   nothing-refused m new r h p c =
       let t = c .reach start h (record { is = refl; count = refl; covers = Covers.none }) in
-      ap (λ (s : State). s .walk .refusal) (if-eq (prologCode im) 0 _ _ p ∙ t .is)
+      ap (λ (s : State). s .progress .refusal) (if-eq (prologCode im) 0 _ _ p ∙ t .is)

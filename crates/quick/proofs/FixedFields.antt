@@ -10,7 +10,7 @@ use borrow.Author.Tests.{eqb-true}
 use Rattle.laws.specs.Choice.{if_then_else_, _=?_}
 use Rattle.laws.specs.Bytes.{byteAt, wordAt}
 use Rattle.field.specs.Formats.{formatOf, limitOf, numeralOf}
-use Rattle.field.specs.Table.{profileOf}
+use Rattle.field.specs.Profiles.{profileOf}
 use Rattle.field.specs.Cells.{spans, inRange}
 use Rattle.field.specs.Settings.{stepFits, widthFits, settingsFit}
 use Rattle.field.specs.Sheet.{sizeOf}
@@ -21,8 +21,8 @@ use Rattle.field.proofs.Bounds.{limit-le, limit-bytes}
 use Rattle.field.proofs.Fitting.{two-bytes, three-bytes, four-bytes, integer-fits, counter-fits, time-fits, date-fits}
 use Rattle.cmf.specs.Limits.{mostFields}
 use Rattle.cmf.specs.Layouts.{Component, integerAt, counterSettingsAt, counterAt, timeLongAt, timeShortAt, dateLongAt, dateShortAt, triggerAt}
-use Rattle.cmf.proofs.Usual.{one-byte, short-bytes, long-bytes}
-use Rattle.quick.specs.declared.stage.Stage.{Stage}
+use Rattle.cmf.proofs.Shortcuts.{one-byte, short-bytes, long-bytes}
+use Rattle.quick.specs.declared.tally.Tally.{Tally}
 use Rattle.quick.specs.Accept.{Claimed, Claims, Held, Passes}
 use Rattle.quick.proofs.Marks.{claimed-none}
 
@@ -106,11 +106,11 @@ pub held :
     sizeOf f ≡ size → (at + 6 ≤ length im) × Held im at end size
 held im {f = f} g p b = (g .0, record { field = f; component = g .1; place = p; bytes = b })
 
-module _ (im : List ℕ) {sheet p end : ℕ} {v : Stage} (good : Bool) (room : v .fields < mostFields) where
+module _ (im : List ℕ) {sheet p end : ℕ} {v : Tally} (sure : Bool) (room : v .fields < mostFields) where
   -- a field whose bytes are claimed, and a trigger, which has none
   pub fixed-passes :
       {from size : ℕ} {old new : List ℕ} → Held im p end size → from ≡ wordAt im (p + 4) → Claimed sheet old new from size →
-      Passes im sheet p v (record { good = good; at = end; lines = v .lines; fields = v .fields + 1 }) old new
+      Passes im sheet p v (record { sure = sure; at = end; lines = v .lines; fields = v .fields + 1 }) old new
   fixed-passes h e k = record {
     fields = h .field ∷ [];
     component = h .component;
@@ -120,7 +120,7 @@ module _ (im : List ℕ) {sheet p end : ℕ} {v : Stage} (good : Bool) (room : v
 
   pub trigger-passes :
       (marks : List ℕ) → Component im p end (triggerAt im p ∷ []) →
-      Passes im sheet p v (record { good = good; at = end; lines = v .lines; fields = v .fields + 1 }) marks marks
+      Passes im sheet p v (record { sure = sure; at = end; lines = v .lines; fields = v .fields + 1 }) marks marks
   unfolding profileOf
   trigger-passes marks c = record {
     fields = triggerAt im p ∷ [];

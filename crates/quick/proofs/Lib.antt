@@ -1,4 +1,4 @@
-pub mod Spots
+pub mod Positions
 pub mod Marks
 pub mod Pieces
 pub mod FixedFields

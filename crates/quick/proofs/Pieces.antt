@@ -8,7 +8,7 @@ use native.Mathlib.Nat.{add-assoc}
 use lib.ListN.{length}
 use borrow.Author.Tests.{lt-ltb}
 use Rattle.laws.specs.Bytes.{byteAt, wordAt}
-use Rattle.field.specs.Table.{profileOf}
+use Rattle.field.specs.Profiles.{profileOf}
 use Rattle.field.specs.Values.{numberOf, valueAt}
 use Rattle.field.specs.Settings.{settingsFit}
 use Rattle.field.specs.declared.kind.Kind.the-variants.{Option}
@@ -16,7 +16,7 @@ use Rattle.cmf.specs.Limits.{prologBytes}
 use Rattle.cmf.specs.Layouts.{bit, Text, Texts, Component, switchAt, optionAt}
 use Rattle.cmf.specs.Grammar.{Head, Password, Digits, isFirst, isLast, isDynamic, hasSubmenu, previousAt, submenuAt, passwordAt, submenuTable}
 use Rattle.field.proofs.Fitting.{four-bytes, switch-fits}
-use Rattle.cmf.proofs.Usual.{one-byte, option-good}
+use Rattle.cmf.proofs.Shortcuts.{one-byte, option-good}
 use Rattle.quick.specs.Accept.{Linked}
 
 -- the bits of a tag that is 0 or 2

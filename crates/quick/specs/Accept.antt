@@ -14,8 +14,8 @@ use Rattle.cmf.specs.Places.{linesFrom, componentsFrom}
 use Rattle.cmf.specs.Layouts.{Aligned, Component}
 use Rattle.cmf.specs.Grammar.{isFirst, isLast, hasSubmenu, previousAt, passwordAt, nextLine, Head}
 use Rattle.acceptance.specs.Check.{State, state, onComponents, onLine, onLines, onTable}
-use Rattle.quick.specs.declared.spot.Spot.{Spot}
-use Rattle.quick.specs.declared.stage.Stage.{Stage}
+use Rattle.quick.specs.declared.position.Position.{Position}
+use Rattle.quick.specs.declared.tally.Tally.{Tally}
 use Rattle.acceptance.specs.declared.index.Entry.{Entry}
 
 -- whether byte i of the sheet is marked: its bit, 1 or 0, in words of 64
@@ -41,14 +41,14 @@ pub record Linked (im : List ℕ) (n before p : ℕ) : Type 0 where
   pub previous : 0 < n → before + wordAt im (previousAt im p) ≡ p
 
 -- R6, 01, row 8: a line's head that the grammar has, at the first odd place behind where the walk stands, and not the 1,025th
-pub record Placed (im : List ℕ) (n before p : ℕ) (w : Stage) (end : ℕ) : Type 0 where
+pub record Placed (im : List ℕ) (n before p : ℕ) (w : Tally) (end : ℕ) : Type 0 where
   pub room : w .lines < mostLines
   pub inside : p < length im
   pub aligned : Aligned im 1 (w .at) p
   pub head : Head im n before p end
 
 -- a component that the grammar has, with its field counted and its bytes marked
-pub record Passes (im : List ℕ) (sheet p : ℕ) (v w : Stage) (old new : List ℕ) : Type 0 where
+pub record Passes (im : List ℕ) (sheet p : ℕ) (v w : Tally) (old new : List ℕ) : Type 0 where
   pub fields : List Field
   pub component : Component im p (w .at) fields
   pub lines : w .lines ≡ v .lines
@@ -69,88 +69,88 @@ pub data Covers (marks : List ℕ) : List Entry → Type 0 where
       Covers marks (e ∷ es)
 
 -- a state of the check that has refused nothing and has come as far
-pub record Stands (w : Stage) (marks : List ℕ) (s : State) : Type 0 where
+pub record AsFar (w : Tally) (marks : List ℕ) (s : State) : Type 0 where
   pub is : s ≡ state (record { refusal = 0; at = w .at; lines = w .lines; fields = length (s .fields) }) (s .fields)
   pub count : length (s .fields) ≡ w .fields
   pub covers : Covers marks (s .fields)
 
 -- a stretch of the check's walk, for a sheet of so many bytes, goes from one stage to another
-pub record Reaches (sheet : ℕ) (stretch : State → State) (v w : Stage) (old new : List ℕ) : Type 0 where
-  pub reach : (s : State) → sheet ≤ longestSheet → Stands v old s → Stands w new (stretch s)
+pub record Reaches (sheet : ℕ) (stretch : State → State) (v w : Tally) (old new : List ℕ) : Type 0 where
+  pub reach : (s : State) → sheet ≤ longestSheet → AsFar v old s → AsFar w new (stretch s)
 
 -- the stage behind a title that ends at a place
-abbrev pub titled : Stage → ℕ → Stage
-titled w end = record { good = true; at = end; lines = w .lines; fields = w .fields }
+abbrev pub titled : Tally → ℕ → Tally
+titled w end = record { sure = true; at = end; lines = w .lines; fields = w .fields }
 
 -- and behind a head
-abbrev pub headed : Stage → ℕ → Stage
-headed w end = record { good = true; at = end; lines = w .lines + 1; fields = w .fields }
+abbrev pub headed : Tally → ℕ → Tally
+headed w end = record { sure = true; at = end; lines = w .lines + 1; fields = w .fields }
 
 -- all components of a line, from the one at a place on, done to a state: they are those that are left, done to a state that has come as far as a stage
-pub record PartsLeft (im : List ℕ) (sheet first : ℕ) (s : State) (v : Stage) (m : List ℕ) : Type 0 where
+pub record PartsLeft (im : List ℕ) (sheet first : ℕ) (s : State) (v : Tally) (m : List ℕ) : Type 0 where
   pub here : State
   pub fuel : ℕ
-  pub stands : Stands v m here
+  pub stands : AsFar v m here
   pub rest : onComponents im sheet mostFields (componentsFrom im (length im + 1) first) s ≡ onComponents im sheet mostFields (componentsFrom im fuel (evenFrom (v .at))) here
   pub enough : length im < v .at + fuel
 
 -- so it is from every state that has come as far as another stage
-pub record AmongParts (im : List ℕ) (sheet : ℕ) (u v : Stage) (old new : List ℕ) : Type 0 where
-  pub go : (s : State) → sheet ≤ longestSheet → Stands u old s → PartsLeft im sheet (evenFrom (u .at)) s v new
+pub record AmongParts (im : List ℕ) (sheet : ℕ) (u v : Tally) (old new : List ℕ) : Type 0 where
+  pub go : (s : State) → sheet ≤ longestSheet → AsFar u old s → PartsLeft im sheet (evenFrom (u .at)) s v new
 
 -- the same of the lines of a table, of which n are done, the last of them at `before`, and the next one stands at p
-pub record LinesLeft (im : List ℕ) (sheet below first : ℕ) (s : State) (n before p : ℕ) (v : Stage) (m : List ℕ) : Type 0 where
+pub record LinesLeft (im : List ℕ) (sheet below first : ℕ) (s : State) (n before p : ℕ) (v : Tally) (m : List ℕ) : Type 0 where
   pub here : State
-  pub stands : Stands v m here
+  pub stands : AsFar v m here
   pub rest :
       onLines im sheet mostFields (onTable im sheet mostFields below) 0 0 (linesFrom im (mostLinesOfTable + 1) first) s
       ≡ onLines im sheet mostFields (onTable im sheet mostFields below) n before (linesFrom im (mostLinesOfTable + 1 - n) p) here
 
 -- and so it is from every state
-pub record AmongLines (im : List ℕ) (sheet below first : ℕ) (u : Stage) (old : List ℕ) (n before p : ℕ) (v : Stage) (new : List ℕ) : Type 0 where
-  pub go : (s : State) → sheet ≤ longestSheet → Stands u old s → LinesLeft im sheet below first s n before p v new
+pub record AmongLines (im : List ℕ) (sheet below first : ℕ) (u : Tally) (old : List ℕ) (n before p : ℕ) (v : Tally) (new : List ℕ) : Type 0 where
+  pub go : (s : State) → sheet ≤ longestSheet → AsFar u old s → LinesLeft im sheet below first s n before p v new
 
 -- a spot in a table whose walk began at a stage: the lines before its own are done, its own has a head that the grammar has, and its components are done up to the spot's stage, or all
-pub record Along (im : List ℕ) (sheet below first : ℕ) (u : Stage) (old : List ℕ) (s : Spot) (new : List ℕ) : Type 0 where
+pub record Along (im : List ℕ) (sheet below first : ℕ) (u : Tally) (old : List ℕ) (s : Position) (new : List ℕ) : Type 0 where
   pub before : ℕ
   pub end : ℕ
-  pub from : Stage
+  pub from : Tally
   pub marks : List ℕ
   pub few : s .n < mostLinesOfTable
   pub lines : AmongLines im sheet below first u old (s .n) before (s .line) from marks
   pub head : Placed im (s .n) before (s .line) from end
-  pub within : s .done ≡ false → AmongParts im sheet (headed from end) (s .stage) marks new
-  pub through : s .done ≡ true → Reaches sheet (onComponents im sheet mostFields (componentsFrom im (length im + 1) (evenFrom end))) (headed from end) (s .stage) marks new
+  pub within : s .done ≡ false → AmongParts im sheet (headed from end) (s .tally) marks new
+  pub through : s .done ≡ true → Reaches sheet (onComponents im sheet mostFields (componentsFrom im (length im + 1) (evenFrom end))) (headed from end) (s .tally) marks new
 
 -- a spot within a line: its components are not all passed, its head and the spot itself are in the image, and there
 -- is a mark for each byte of the sheet
-pub record Within (im : List ℕ) (sheet : ℕ) (s : Spot) (marks : List ℕ) : Type 0 where
+pub record Within (im : List ℕ) (sheet : ℕ) (s : Position) (marks : List ℕ) : Type 0 where
   pub going : s .done ≡ false
   pub head : passwordAt im (s .line) ≤ length im
-  pub inside : s .stage .at ≤ length im
+  pub inside : s .tally .at ≤ length im
   pub marked : sheet ≤ 64 * length marks
 
 -- from one spot to another, in whatever table they are
-pub record Moves (im : List ℕ) (sheet : ℕ) (s r : Spot) (old new : List ℕ) : Type 0 where
+pub record Moves (im : List ℕ) (sheet : ℕ) (s r : Position) (old new : List ℕ) : Type 0 where
   pub inside : passwordAt im (r .line) ≤ length im
   pub counted : s .n ≤ r .n
-  pub onward : s .stage .at ≤ r .stage .at
-  pub fits : r .stage .at ≤ length im
-  pub carry : (below first : ℕ) (u : Stage) (began : List ℕ) → Along im sheet below first u began s old → Along im sheet below first u began r new
+  pub onward : s .tally .at ≤ r .tally .at
+  pub fits : r .tally .at ≤ length im
+  pub carry : (below first : ℕ) (u : Tally) (began : List ℕ) → Along im sheet below first u began s old → Along im sheet below first u began r new
 
 -- a line with a plain head behind the line at a place, which has neither a submenu nor the mark of the last
-pub record Next (im : List ℕ) (n line : ℕ) (w : Stage) (s : Spot) : Type 0 where
+pub record Next (im : List ℕ) (n line : ℕ) (w : Tally) (s : Position) : Type 0 where
   pub more : isLast im line ≡ 0
   pub plain : hasSubmenu im line ≡ 0
   pub counted : s .n ≡ n + 1
   pub few : s .n < mostLinesOfTable
   pub there : s .line ≡ nextLine im line
-  pub head : Placed im (s .n) line (s .line) w (s .stage .at)
-  pub stage : s .stage ≡ headed w (s .stage .at)
+  pub head : Placed im (s .n) line (s .line) w (s .tally .at)
+  pub tally : s .tally ≡ headed w (s .tally .at)
 
 -- with the submenu of a line, if it has one, the whole line is done
-pub record Leaves (im : List ℕ) (sheet below line : ℕ) (w r : Stage) (mid new : List ℕ) : Type 0 where
+pub record Leaves (im : List ℕ) (sheet below line : ℕ) (w r : Tally) (mid new : List ℕ) : Type 0 where
   pub leave :
-      {n before end : ℕ} {from : Stage} {old : List ℕ} → n < mostLinesOfTable → Placed im n before line from end →
+      {n before end : ℕ} {from : Tally} {old : List ℕ} → n < mostLinesOfTable → Placed im n before line from end →
       Reaches sheet (onComponents im sheet mostFields (componentsFrom im (length im + 1) (evenFrom end))) (headed from end) w old mid →
       Reaches sheet (onLine im sheet mostFields (onTable im sheet mostFields below) n before line) from r old new

@@ -12,20 +12,20 @@ use crate::components::accept_component;
 use crate::heads::accept_head;
 use crate::heads::next_of;
 use crate::heads::submenu_of;
+use crate::position::Position;
 use crate::run::run;
-use crate::spot::Spot;
-use crate::stage::Stage;
+use crate::tally::Tally;
 use cmf::image::Image;
 use cmf::title::read_title;
 use walk::check::check;
 use walk::check::prolog_code;
 
 // A spot that gives doubt.
-fn doubtful(s: Spot) -> Spot
-    ensures { λ r. ⌜ r .stage .good ≡ false ⌝ }
+fn doubtful(s: Position) -> Position
+    ensures { λ r. ⌜ r .tally .sure ≡ false ⌝ }
 {
-    Spot {
-        stage: Stage::doubt(),
+    Position {
+        tally: Tally::doubt(),
         n: s.n,
         line: s.line,
         done: true,
@@ -33,18 +33,18 @@ fn doubtful(s: Spot) -> Spot
 }
 
 // One component more, of any kind but an option: one that the loop has left is in doubt. It is at fault, or it has one empty item and ends the image.
-fn take_other(image: &[u8], sheet: usize, s: Spot, marks: &mut [u64]) -> Spot
+fn take_other(image: &[u8], sheet: usize, s: Position, marks: &mut [u64]) -> Position
     requires { ⌜ Within (now image) sheet s (now marks) ⌝ }
-    ensures { λ r. ⌜ (r .stage .good ≡ true → Moves (now (image .entry)) sheet s r (now (marks .entry)) (now (marks .exit)) × (s .stage .at < r .stage .at)) ⌝ }
+    ensures { λ r. ⌜ (r .tally .sure ≡ true → Moves (now (image .entry)) sheet s r (now (marks .entry)) (now (marks .exit)) × (s .tally .at < r .tally .at)) ⌝ }
 {
-    let at = s.stage.at;
+    let at = s.tally.at;
     let p = at + at % 2;
     if image.len() <= p {
         return doubtful(s);
     }
-    let w = accept_component(image, sheet, p, s.stage, &mut *marks);
-    Spot {
-        stage: w,
+    let w = accept_component(image, sheet, p, s.tally, &mut *marks);
+    Position {
+        tally: w,
         n: s.n,
         line: s.line,
         done: image[p] / 128 % 2 == 1,
@@ -52,18 +52,18 @@ fn take_other(image: &[u8], sheet: usize, s: Spot, marks: &mut [u64]) -> Spot
 }
 
 // From a spot within a line to the end of this line, or of a later one of its table.
-fn pass_lines(image: &[u8], sheet: usize, start: Spot, marks: &mut [u64]) -> Spot
+fn pass_lines(image: &[u8], sheet: usize, start: Position, marks: &mut [u64]) -> Position
     requires { ⌜ Within (now image) sheet start (now marks) ⌝ }
-    ensures { λ r. ⌜ (r .stage .good ≡ true → (r .done ≡ true) × Moves (now (image .entry)) sheet start r (now (marks .entry)) (now (marks .exit))) ⌝ }
+    ensures { λ r. ⌜ (r .tally .sure ≡ true → (r .done ≡ true) × Moves (now (image .entry)) sheet start r (now (marks .entry)) (now (marks .exit))) ⌝ }
 {
     let mut s = start;
-    while s.stage.at < image.len() {
-        let usual = run(image, sheet, s, &mut *marks);
-        if usual.done {
-            return usual;
+    while s.tally.at < image.len() {
+        let plain = run(image, sheet, s, &mut *marks);
+        if plain.done {
+            return plain;
         }
-        s = take_other(image, sheet, usual, &mut *marks);
-        if !s.stage.good {
+        s = take_other(image, sheet, plain, &mut *marks);
+        if !s.tally.sure {
             return s;
         }
         if s.done {
@@ -79,16 +79,16 @@ fn accept_submenu(
     sheet: usize,
     below: usize,
     line: usize,
-    w: Stage,
+    w: Tally,
     marks: &mut [u64],
-) -> Stage
+) -> Tally
     requires { ⌜ (passwordAt (now image) line ≤ length (now image)) × (sheet ≤ 64 * length (now marks)) ⌝ }
-    ensures { λ r. ⌜ (r .good ≡ true → Leaves (now (image .entry)) sheet below line w r (now (marks .entry)) (now (marks .exit))) ⌝ }
+    ensures { λ r. ⌜ (r .sure ≡ true → Leaves (now (image .entry)) sheet below line w r (now (marks .entry)) (now (marks .exit))) ⌝ }
 {
     if image[line] / 8 % 2 == 1 {
         let t = accept_table(image, sheet, below, submenu_of(image, line), w, &mut *marks);
-        return Stage {
-            good: t.good,
+        return Tally {
+            sure: t.sure,
             at: w.at,
             lines: t.lines,
             fields: t.fields,
@@ -103,18 +103,18 @@ fn accept_table(
     sheet: usize,
     left: usize,
     table: usize,
-    w: Stage,
+    w: Tally,
     marks: &mut [u64],
-) -> Stage
+) -> Tally
     requires { ⌜ sheet ≤ 64 * length (now marks) ⌝ }
-    ensures { λ r. ⌜ (r .good ≡ true → Reaches sheet (onTable (now (image .entry)) sheet mostFields left table) w r (now (marks .entry)) (now (marks .exit))) ⌝ }
+    ensures { λ r. ⌜ (r .sure ≡ true → Reaches sheet (onTable (now (image .entry)) sheet mostFields left table) w r (now (marks .entry)) (now (marks .exit))) ⌝ }
 {
     let title = read_title(image, table);
     if title.refusal != 0 {
-        return Stage::doubt();
+        return Tally::doubt();
     }
     if left == 0 {
-        return Stage::doubt();
+        return Tally::doubt();
     }
     let below = left - 1;
     let mut v = w.titled(title.end);
@@ -124,16 +124,16 @@ fn accept_table(
     while n < Image::MAX_TABLE_LINES {
         let end = accept_head(image, n, before, p, v);
         if end == 0 {
-            return Stage::doubt();
+            return Tally::doubt();
         }
-        let head = Spot::headed(v, n, p, end);
+        let head = Position::headed(v, n, p, end);
         let s = pass_lines(image, sheet, head, &mut *marks);
-        if !s.stage.good {
-            return s.stage;
+        if !s.tally.sure {
+            return s.tally;
         }
         let line = s.line;
-        v = accept_submenu(image, sheet, below, line, s.stage, &mut *marks);
-        if !v.good {
+        v = accept_submenu(image, sheet, below, line, s.tally, &mut *marks);
+        if !v.sure {
             return v;
         }
         if image[line] / 2 % 2 == 1 {
@@ -143,7 +143,7 @@ fn accept_table(
         p = next_of(image, line);
         n = s.n + 1;
     }
-    Stage::doubt()
+    Tally::doubt()
 }
 
 // Whether nothing gives the walk doubt.
@@ -158,8 +158,8 @@ fn is_accepted(image: &[u8], sheet: usize) -> bool
         return false;
     }
     let mut marks = [0u64; WORDS];
-    let start = Stage {
-        good: true,
+    let start = Tally {
+        sure: true,
         at: 0,
         lines: 0,
         fields: 0,
@@ -172,7 +172,7 @@ fn is_accepted(image: &[u8], sheet: usize) -> bool
         start,
         &mut marks,
     );
-    end.good
+    end.sure
 }
 
 // The refusal number of an image for a sheet of so many bytes, 0 for none.
@@ -184,5 +184,5 @@ pub fn refusal_of(image: &[u8], sheet: usize) -> u8
         return 0;
     }
     let c = check(image, sheet);
-    c.walk.refusal
+    c.progress.refusal
 }

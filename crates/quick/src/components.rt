@@ -9,7 +9,7 @@ ghost use Rattle.cmf.specs.Readers.{evenFrom};
 ghost use Rattle.cmf.specs.Layouts.{Aligned, Component};
 ghost use Rattle.quick.specs.Accept.{Passes};
 use crate::fixed::accept_field;
-use crate::stage::Stage;
+use crate::tally::Tally;
 use walk::check::is_padded;
 
 // Where the constant string at a place ends; 0 in doubt.
@@ -32,20 +32,20 @@ pub(crate) fn accept_component(
     image: &[u8],
     sheet: usize,
     p: usize,
-    w: Stage,
+    w: Tally,
     marks: &mut [u64],
-) -> Stage
+) -> Tally
     requires { ⌜ (p < length (now image)) × (p ≡ evenFrom (w .at)) × (sheet ≤ 64 * length (now marks)) ⌝ }
-    ensures { λ r. ⌜ (r .good ≡ true → Aligned (now (image .entry)) 0 (w .at) p × Passes (now (image .entry)) sheet p w r (now (marks .entry)) (now (marks .exit))) ⌝ }
+    ensures { λ r. ⌜ (r .sure ≡ true → Aligned (now (image .entry)) 0 (w .at) p × Passes (now (image .entry)) sheet p w r (now (marks .entry)) (now (marks .exit))) ⌝ }
 {
     let zero = is_padded(image, w.at, p);
     if !zero {
-        return Stage::doubt();
+        return Tally::doubt();
     }
     if image[p] % 64 == 0x15 {
         let end = string_end(image, p);
-        return Stage {
-            good: 0 < end,
+        return Tally {
+            sure: 0 < end,
             at: end,
             lines: w.lines,
             fields: w.fields,

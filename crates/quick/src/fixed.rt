@@ -12,7 +12,7 @@ ghost use Rattle.cmf.specs.Layouts.{Component, integerAt, counterSettingsAt, co
 ghost use Rattle.quick.specs.Accept.{Held, Passes};
 use crate::claim::claim;
 use crate::heads::word_in;
-use crate::stage::Stage;
+use crate::tally::Tally;
 use crate::texts::switch_end;
 use cmf::image::Image;
 use field::kind::Kind;
@@ -294,19 +294,19 @@ pub(crate) fn accept_field(
     image: &[u8],
     sheet: usize,
     p: usize,
-    w: Stage,
+    w: Tally,
     marks: &mut [u64],
-) -> Stage
+) -> Tally
     requires { ⌜ (p < length (now image)) × (sheet ≤ 64 * length (now marks)) ⌝ }
-    ensures { λ r. ⌜ (r .good ≡ true → Passes (now (image .entry)) sheet p w r (now (marks .entry)) (now (marks .exit))) ⌝ }
+    ensures { λ r. ⌜ (r .sure ≡ true → Passes (now (image .entry)) sheet p w r (now (marks .entry)) (now (marks .exit))) ⌝ }
 {
     if Image::MAX_FIELDS <= w.fields {
-        return Stage::doubt();
+        return Tally::doubt();
     }
     if image[p] % 32 == 0x17 {
         let end = trigger_end(image, p);
-        return Stage {
-            good: 0 < end,
+        return Tally {
+            sure: 0 < end,
             at: end,
             lines: w.lines,
             fields: w.fields + 1,
@@ -314,11 +314,11 @@ pub(crate) fn accept_field(
     }
     let e = extent_of(image, p);
     if e.end == 0 {
-        return Stage::doubt();
+        return Tally::doubt();
     }
-    let good = claim(&mut *marks, sheet, word_in(image, p + 4), e.size);
-    Stage {
-        good,
+    let sure = claim(&mut *marks, sheet, word_in(image, p + 4), e.size);
+    Tally {
+        sure,
         at: e.end,
         lines: w.lines,
         fields: w.fields + 1,

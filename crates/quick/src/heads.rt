@@ -7,7 +7,7 @@ ghost use Rattle.laws.specs.Bytes.{wordAt};
 ghost use Rattle.cmf.specs.Layouts.{Aligned, Text};
 ghost use Rattle.cmf.specs.Grammar.{Digits, Head, isLast, passwordAt, hasSubmenu, nextLine, submenuTable};
 ghost use Rattle.quick.specs.Accept.{Linked, Placed};
-use crate::stage::Stage;
+use crate::tally::Tally;
 use cmf::head::Options;
 use cmf::image::Image;
 use cmf::text::password_fits;
@@ -88,8 +88,8 @@ fn password_end(image: &[u8], at: usize) -> usize
     if image.len() < end {
         return 0;
     }
-    let good = password_fits(image, at);
-    if good {
+    let sure = password_fits(image, at);
+    if sure {
         return end;
     }
     0
@@ -130,7 +130,7 @@ fn any_end(image: &[u8], n: usize, before: usize, p: usize) -> usize
 }
 
 // Where the head of a line at p ends, if the line stands behind where the walk does and may be counted; 0 in doubt.
-pub(crate) fn accept_head(image: &[u8], n: usize, before: usize, p: usize, w: Stage) -> usize
+pub(crate) fn accept_head(image: &[u8], n: usize, before: usize, p: usize, w: Tally) -> usize
     requires { ⌜ before ≤ p ⌝ }
     ensures { λ r. ⌜ (0 < r → Placed (now (image .entry)) n before p w r) ⌝ }
 {

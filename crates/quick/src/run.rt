@@ -12,26 +12,26 @@ use crate::claim::claim_byte;
 use crate::heads::next_of;
 use crate::heads::plain_end;
 use crate::heads::word_in;
-use crate::spot::Spot;
-use crate::stage::Stage;
+use crate::position::Position;
+use crate::tally::Tally;
 use crate::texts::option_end;
 use cmf::image::Image;
 
 // The option at p with its byte in the sheet; in doubt no byte is marked.
-fn take_option(image: &[u8], sheet: usize, p: usize, w: Stage, marks: &mut [u64]) -> Stage
+fn take_option(image: &[u8], sheet: usize, p: usize, w: Tally, marks: &mut [u64]) -> Tally
     requires { ⌜ (p + 10 < length (now image)) × (byteAt (now image) p % 32 ≡ 0x14) × (sheet ≤ 64 * length (now marks)) ⌝ }
-    ensures { λ r. ⌜ (r .good ≡ true → Passes (now (image .entry)) sheet p w r (now (marks .entry)) (now (marks .exit))) × (r .good ≡ false → now (marks .exit) ≡ now (marks .entry)) ⌝ }
+    ensures { λ r. ⌜ (r .sure ≡ true → Passes (now (image .entry)) sheet p w r (now (marks .entry)) (now (marks .exit))) × (r .sure ≡ false → now (marks .exit) ≡ now (marks .entry)) ⌝ }
 {
     if Image::MAX_FIELDS <= w.fields {
-        return Stage::doubt();
+        return Tally::doubt();
     }
     let end = option_end(image, p);
     if end == 0 {
-        return Stage::doubt();
+        return Tally::doubt();
     }
-    let good = claim_byte(&mut *marks, sheet, word_in(image, p + 4));
-    Stage {
-        good,
+    let sure = claim_byte(&mut *marks, sheet, word_in(image, p + 4));
+    Tally {
+        sure,
         at: end,
         lines: w.lines,
         fields: w.fields + 1,
@@ -39,14 +39,14 @@ fn take_option(image: &[u8], sheet: usize, p: usize, w: Stage, marks: &mut [u64]
 }
 
 // The component at p with its tag, if it is a constant string or an option without fault; no other is taken.
-fn take_usual(image: &[u8], sheet: usize, p: usize, tag: u8, w: Stage, marks: &mut [u64]) -> Stage
+fn take_plain(image: &[u8], sheet: usize, p: usize, tag: u8, w: Tally, marks: &mut [u64]) -> Tally
     requires { ⌜ (p + 10 < length (now image)) × (tag ≡ byteAt (now image) p) × (sheet ≤ 64 * length (now marks)) ⌝ }
-    ensures { λ r. ⌜ (r .good ≡ true → Passes (now (image .entry)) sheet p w r (now (marks .entry)) (now (marks .exit))) × (r .good ≡ false → now (marks .exit) ≡ now (marks .entry)) ⌝ }
+    ensures { λ r. ⌜ (r .sure ≡ true → Passes (now (image .entry)) sheet p w r (now (marks .entry)) (now (marks .exit))) × (r .sure ≡ false → now (marks .exit) ≡ now (marks .entry)) ⌝ }
 {
     if tag % 64 == 0x15 {
         let end = p + 2 + image[p + 1] as usize;
-        return Stage {
-            good: end <= image.len(),
+        return Tally {
+            sure: end <= image.len(),
             at: end,
             lines: w.lines,
             fields: w.fields,
@@ -55,7 +55,7 @@ fn take_usual(image: &[u8], sheet: usize, p: usize, tag: u8, w: Stage, marks: &m
     if tag % 32 == 0x14 {
         return take_option(image, sheet, p, w, &mut *marks);
     }
-    Stage::doubt()
+    Tally::doubt()
 }
 
 // Whether what stands at the first even place from `at` on follows it at once or behind a zero byte.
@@ -70,12 +70,12 @@ fn is_padded_to_even(image: &[u8], at: usize) -> bool
 }
 
 // Behind the line at a place, which is done: the line that it leads to, where its head is a plain one; where not, the spot at the line's end.
-fn next_usual(image: &[u8], n: usize, line: usize, w: Stage) -> Spot
+fn next_plain(image: &[u8], n: usize, line: usize, w: Tally) -> Position
     requires { ⌜ passwordAt (now image) line ≤ length (now image) ⌝ }
-    ensures { λ r. ⌜ (r .done ≡ false → Next (now (image .entry)) n line w r) × (r .done ≡ true → r ≡ record { stage = w; n = n; line = line; done = true }) ⌝ }
+    ensures { λ r. ⌜ (r .done ≡ false → Next (now (image .entry)) n line w r) × (r .done ≡ true → r ≡ record { tally = w; n = n; line = line; done = true }) ⌝ }
 {
-    let behind = Spot {
-        stage: w,
+    let behind = Position {
+        tally: w,
         n,
         line,
         done: true,
@@ -97,9 +97,9 @@ fn next_usual(image: &[u8], n: usize, line: usize, w: Stage) -> Spot
     if end == 0 {
         return behind;
     }
-    Spot {
-        stage: Stage {
-            good: true,
+    Position {
+        tally: Tally {
+            sure: true,
             at: end,
             lines: w.lines + 1,
             fields: w.fields,
@@ -111,30 +111,30 @@ fn next_usual(image: &[u8], n: usize, line: usize, w: Stage) -> Spot
 }
 
 // From a spot within a line as far as all is usual and eleven bytes of a component, the fewest that an option has, and one before them are in the image.
-pub(crate) fn run(image: &[u8], sheet: usize, start: Spot, marks: &mut [u64]) -> Spot
+pub(crate) fn run(image: &[u8], sheet: usize, start: Position, marks: &mut [u64]) -> Position
     requires { ⌜ Within (now image) sheet start (now marks) ⌝ }
     ensures { λ r. ⌜ Moves (now (image .entry)) sheet start r (now (marks .entry)) (now (marks .exit)) ⌝ }
 {
     let mut s = start;
-    while s.stage.at + 11 < image.len() {
-        let at = s.stage.at;
+    while s.tally.at + 11 < image.len() {
+        let at = s.tally.at;
         let zero = is_padded_to_even(image, at);
         if !zero {
             return s;
         }
         let p = at + at % 2;
         let tag = image[p];
-        let w = take_usual(image, sheet, p, tag, s.stage, &mut *marks);
-        if !w.good {
+        let w = take_plain(image, sheet, p, tag, s.tally, &mut *marks);
+        if !w.sure {
             return s;
         }
         if tag / 128 % 2 == 1 {
-            s = next_usual(image, s.n, s.line, w);
+            s = next_plain(image, s.n, s.line, w);
             if s.done {
                 return s;
             }
         } else {
-            s.stage = w;
+            s.tally = w;
         }
     }
     s

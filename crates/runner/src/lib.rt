@@ -74,7 +74,7 @@ fn print_space() {
 
 fn run_check(image: &[u8], sheet: &[u8]) {
     let c = check(image, sheet.len());
-    io::print_decimal(STDOUT_FILENO, c.walk.refusal as u64);
+    io::print_decimal(STDOUT_FILENO, c.progress.refusal as u64);
 }
 
 fn run_text(image: &[u8], sheet: &[u8], place: usize, item: usize) {

@@ -13,8 +13,8 @@ use handset::open::open;
 use laws::byte_at;
 use libc::STDIN_FILENO;
 use libc::STDOUT_FILENO;
+use session::answer::Answer;
 use session::session::Session;
-use session::step::Answer;
 use session_bytes::layout::SIZE;
 use session_bytes::write::write_session;
 

@@ -5,9 +5,9 @@ use native.Mathlib.Omega.{arith}
 use Rattle.laws.specs.Choice.{if_then_else_, _=?_, _<?_}
 use Rattle.laws.proofs.Cases.{if-lt, if-ge, if-ne}
 use Rattle.field.specs.declared.kind.ImagePlace.{ImagePlace}
-use Rattle.session.specs.Steps.{finishedFrom, firedFrom, refusedFrom, told}
-use Rattle.session.specs.declared.step.Answer.{Answer}
-use Rattle.session.specs.declared.step.Answer.the-variants as answer
+use Rattle.session.specs.Answers.{finishedFrom, firedFrom, refusedFrom, answerNumber}
+use Rattle.session.specs.declared.answer.Answer.{Answer}
+use Rattle.session.specs.declared.answer.Answer.the-variants as answer
 
 -- an answer whose place is below 65,536
 abbrev pub Near : Answer → Type 0
@@ -29,8 +29,8 @@ answerOf n =
     else if n <? refusedFrom then answer.Fired (place (n - firedFrom))
     else answer.Refused (n - refusedFrom)
 
-again : (a : Answer) → Near a → answerOf (told a) ≡ a
-unfolding told if_then_else_
+again : (a : Answer) → Near a → answerOf (answerNumber a) ≡ a
+unfolding answerNumber if_then_else_
 again answer.Taken h = refl
 again answer.Flash h = refl
 again (answer.Finished p) h =
@@ -45,5 +45,5 @@ again (answer.Refused k) h =
     ∙ if-ge (refusedFrom + k) firedFrom _ _ (omega arith) ∙ if-ge (refusedFrom + k) refusedFrom _ _ (omega arith)
     ∙ ap (λ (n : ℕ). answer.Refused n) (omega arith)
 
-pub told-once : (a b : Answer) → Near a → Near b → told a ≡ told b → a ≡ b
+pub told-once : (a b : Answer) → Near a → Near b → answerNumber a ≡ answerNumber b → a ≡ b
 told-once a b h k e = sym (again a h) ∙ ap answerOf e ∙ again b k

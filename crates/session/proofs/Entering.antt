@@ -15,12 +15,12 @@ use Rattle.cmf.specs.Readers.{imageOf}
 use Rattle.cmf.specs.declared.head.Head.{Head}
 use Rattle.cmf.specs.declared.image.Image.{Image}
 use Rattle.session.specs.Fits.{cursorHead}
-use Rattle.session.specs.Steps.{taken, flash, browsing, entering}
+use Rattle.session.specs.Answers.{taken, flash, browsing, inEntry}
 use Rattle.session.specs.Browsing.{descended}
-use Rattle.session.specs.Seconds.{later, passed, waited, atTop, browseSecond, entrySecond}
-use Rattle.session.specs.Passwords.{rightTo, entered, lastDigit, digitStep}
+use Rattle.session.specs.Seconds.{later, delayOver, waited, atTop, browseSecond, entrySecond}
+use Rattle.session.specs.Passwords.{rightTo, entryOver, lastDigit, digitStep}
 use Rattle.session.specs.declared.session.Session.{Session}
-use Rattle.session.specs.declared.step.Stepped.{Stepped}
+use Rattle.session.specs.declared.answer.Stepped.{Stepped}
 use Rattle.session.proofs.Stepping.{and-none}
 
 -- ---- digits
@@ -46,19 +46,19 @@ module _ (im ds : List ℕ) (at : ℕ) where
 -- ---- entries
 
 module _ (im : List ℕ) (s : Session) (h : Head) where
-  pub last-right : (ds : List ℕ) (n : ℕ) (t : Bool) (next : Session) (r : Stepped) → t ≡ rightTo im (h .password + 1) ds n → t ≡ true → next ≡ entered s ds
+  pub last-right : (ds : List ℕ) (n : ℕ) (t : Bool) (next : Session) (r : Stepped) → t ≡ rightTo im (h .password + 1) ds n → t ≡ true → next ≡ entryOver s ds
       → r ≡ descended next (h .table) → r ≡ lastDigit im s h ds n
   unfolding lastDigit
   last-right ds n t next r e b f g = g ∙ rw f (sym (if-true _ _ (sym e ∙ b)))
 
-  pub last-wrong : (ds : List ℕ) (n : ℕ) (t : Bool) (next : Session) (r : Stepped) → t ≡ rightTo im (h .password + 1) ds n → t ≡ false → next ≡ entered s ds
+  pub last-wrong : (ds : List ℕ) (n : ℕ) (t : Bool) (next : Session) (r : Stepped) → t ≡ rightTo im (h .password + 1) ds n → t ≡ false → next ≡ entryOver s ds
       → r ≡ flash next → r ≡ lastDigit im s h ds n
   unfolding lastDigit
   last-wrong ds n t next r e b f g = g ∙ rw f (sym (if-false _ _ (sym e ∙ b)))
 
 module _ (im : List ℕ) (s : Session) (h : Head) (e : h ≡ cursorHead im (s .here)) (n d b : ℕ) (ds : List ℕ) (k : b ≡ byteAt im (h .password))
     (q : ds ≡ set (s .typed) n d) (r : Stepped) where
-  pub digit-more : n + 1 < b → r ≡ taken (entering s (n + 1) ds) → r ≡ digitStep im s (cursorHead im (s .here)) n d
+  pub digit-more : n + 1 < b → r ≡ taken (inEntry s (n + 1) ds) → r ≡ digitStep im s (cursorHead im (s .here)) n d
   unfolding digitStep
   digit-more l f = f ∙ rw (← e, q) (sym (if-lt (n + 1) (byteAt im (h .password)) _ _ (omega (arith, k))))
 
@@ -69,18 +69,18 @@ module _ (im : List ℕ) (s : Session) (h : Head) (e : h ≡ cursorHead im (s .h
 -- ---- seconds
 
 module _ (im : List ℕ) (s : Session) (i : Image) (e : i ≡ imageOf im) (n : ℕ) (l : n ≡ later (s .idle)) (t : Bool) (r : Stepped) where
-  pub top-shown : t ≡ passed (i .top) n → t ≡ true → r ≡ taken (atTop (waited s)) → r ≡ browseSecond im s
+  pub top-shown : t ≡ delayOver (i .delays .top) n → t ≡ true → r ≡ taken (atTop (waited s)) → r ≡ browseSecond im s
   unfolding browseSecond
   top-shown a b f = f ∙ sym (if-true _ _ (rw (← e, ← l) (sym a ∙ b)))
 
-  pub still-here : t ≡ passed (i .top) n → t ≡ false → r ≡ taken (waited s) → r ≡ browseSecond im s
+  pub still-here : t ≡ delayOver (i .delays .top) n → t ≡ false → r ≡ taken (waited s) → r ≡ browseSecond im s
   unfolding browseSecond
   still-here a b f = f ∙ sym (if-false _ _ (rw (← e, ← l) (sym a ∙ b)))
 
-  pub entry-ended : t ≡ passed (i .entry) n → t ≡ true → r ≡ taken (browsing (waited s)) → r ≡ entrySecond im s
+  pub entry-ended : t ≡ delayOver (i .delays .password) n → t ≡ true → r ≡ taken (browsing (waited s)) → r ≡ entrySecond im s
   unfolding entrySecond
   entry-ended a b f = f ∙ sym (if-true _ _ (rw (← e, ← l) (sym a ∙ b)))
 
-  pub entry-goes-on : t ≡ passed (i .entry) n → t ≡ false → r ≡ taken (waited s) → r ≡ entrySecond im s
+  pub entry-goes-on : t ≡ delayOver (i .delays .password) n → t ≡ false → r ≡ taken (waited s) → r ≡ entrySecond im s
   unfolding entrySecond
   entry-goes-on a b f = f ∙ sym (if-false _ _ (rw (← e, ← l) (sym a ∙ b)))

@@ -14,11 +14,11 @@ use Rattle.cmf.specs.declared.component.Component.{Component}
 use Rattle.cmf.specs.declared.head.Head.{Head}
 use Rattle.cmf.specs.declared.place.Found.{Found}
 use Rattle.session.specs.Fits.{cursorHead}
-use Rattle.session.specs.Steps.{taken, flash, doing, entering}
+use Rattle.session.specs.Answers.{taken, flash, inMode, inEntry}
 use Rattle.session.specs.Browsing.{cursorOn, downStep, descended, rightStep, visitAt, enterAt, enterStep}
 use Rattle.session.specs.declared.session.Mode.the-variants as mode
 use Rattle.session.specs.declared.session.Session.{Session}
-use Rattle.session.specs.declared.step.Stepped.{Stepped}
+use Rattle.session.specs.declared.answer.Stepped.{Stepped}
 
 -- ---- the keys
 
@@ -32,7 +32,7 @@ module _ (im : List ℕ) (s : Session) where
   down-stops r h f = f ∙ sym (if-false _ _ h)
 
   module _ (h : Head) (e : h ≡ cursorHead im (s .here)) (r : Stepped) where
-    pub right-asks : h .submenu ≡ true → h .protected ≡ true → r ≡ taken (entering s 0 (s .typed)) → r ≡ rightStep im s
+    pub right-asks : h .submenu ≡ true → h .protected ≡ true → r ≡ taken (inEntry s 0 (s .typed)) → r ≡ rightStep im s
     unfolding rightStep
     right-asks a b f = f ∙ sym (rw (← e) (if-true _ _ a ∙ if-true _ _ b))
 
@@ -47,7 +47,7 @@ module _ (im : List ℕ) (s : Session) where
 -- ---- visits
 
 pub visit-is : (im sheet : List ℕ) (s r : Session) (p : ImagePlace) (c : Component) (w : Work) → c ≡ componentAt im (p .0) → w ≡ begun (c .field) sheet
-    → r ≡ doing s (mode.Visit p) w (s .typed) → r ≡ visitAt im sheet s p
+    → r ≡ inMode s (mode.Visit p) w (s .typed) → r ≡ visitAt im sheet s p
 visit-is im sheet s r p c w e f g = g ∙ rw (f, e)
 
 -- by what is found on the cursor line

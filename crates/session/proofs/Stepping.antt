@@ -15,7 +15,7 @@ use Rattle.cmf.specs.Places.{componentsFrom, lineCount, foundIf, lineFound}
 use Rattle.cmf.specs.declared.component.Component.{Component}
 use Rattle.cmf.specs.declared.head.Head.{Head}
 use Rattle.session.specs.Session.{noLevel}
-use Rattle.session.specs.Fits.{shapeFits, levelFits, levelsFit, tablesFit, cursorLine, cursorHead, among, digitsTo, modeFits, sessionFits}
+use Rattle.session.specs.Fits.{shapeFits, levelFits, levelsFit, tablesFit, cursorLine, cursorHead, isIn, digitsTo, modeFits, sessionFits}
 use Rattle.session.specs.declared.session.Level.{Level}
 use Rattle.session.specs.declared.session.Session.{Session}
 
@@ -90,29 +90,29 @@ module _ (im : List ℕ) (lines t : ℕ) (ls : List Level) (i n : ℕ) (here : L
 -- ---- components of a line
 
 module _ (im : List ℕ) (p : ℕ) where
-  pub among-here : (left c : ℕ) → 0 < left → c ≡ p → among p (componentsFrom im left c) ≡ true
-  unfolding among componentsFrom
+  pub among-here : (left c : ℕ) → 0 < left → c ≡ p → isIn p (componentsFrom im left c) ≡ true
+  unfolding isIn componentsFrom
   among-here zero c h e = absurd (omega arith)
   among-here (suc n) c h e = if-eq c p _ _ e
 
   among-one : (left c : ℕ) (k : Component) → 0 < left → (c ≡ p → ⊥) → k ≡ componentAt im c
-      → among p (componentsFrom im left c) ≡ among p (if k .last then [] else componentsFrom im (left - 1) (k .next))
-  unfolding among componentsFrom
+      → isIn p (componentsFrom im left c) ≡ isIn p (if k .last then [] else componentsFrom im (left - 1) (k .next))
+  unfolding isIn componentsFrom
   among-one zero c k h n e = absurd (omega arith)
   among-one (suc m) c k h n e = let z : suc m - 1 ≡ m = omega arith in if-ne c p _ _ n ∙ rw (z, e)
 
   pub among-last : (left c : ℕ) (k : Component) → 0 < left → (c ≡ p → ⊥) → k ≡ componentAt im c → k .last ≡ true
-      → among p (componentsFrom im left c) ≡ false
-  unfolding among if_then_else_
+      → isIn p (componentsFrom im left c) ≡ false
+  unfolding isIn if_then_else_
   among-last left c k h n e l = among-one left c k h n e ∙ rw l
 
   pub among-next : (left c : ℕ) (k : Component) → 0 < left → (c ≡ p → ⊥) → k ≡ componentAt im c → k .last ≡ false
-      → among p (componentsFrom im (left - 1) (k .next)) ≡ among p (componentsFrom im left c)
+      → isIn p (componentsFrom im (left - 1) (k .next)) ≡ isIn p (componentsFrom im left c)
   unfolding if_then_else_
   among-next left c k h n e l = sym (among-one left c k h n e ∙ rw l)
 
-  pub among-done : (left c : ℕ) → left ≤ 0 → among p (componentsFrom im left c) ≡ false
-  unfolding among componentsFrom
+  pub among-done : (left c : ℕ) → left ≤ 0 → isIn p (componentsFrom im left c) ≡ false
+  unfolding isIn componentsFrom
   among-done left c h = let z : left ≡ 0 = omega arith in rw z
 
 -- ---- digits typed

@@ -3,7 +3,7 @@ use Prim.Native.Nat.{ℕ, _≤_, _<_}
 use mathlib.Core.Path.{_≡_, sym, ap, _∙_}
 use mathlib.Core.List.{List}
 use Rattle.laws.proofs.Cases.{if-eq, if-ne, if-le, if-gt}
-use Rattle.field.specs.Table.{profileOf, cellOf}
+use Rattle.field.specs.Profiles.{profileOf, cellOf}
 use Rattle.keys.specs.Keys.{digitKey, flash}
 use Rattle.field.specs.declared.kind.Kind.{Kind}
 use Rattle.field.specs.declared.kind.ImagePlace.{ImagePlace}
@@ -13,13 +13,13 @@ use Rattle.cmf.specs.Readers.{componentAt}
 use Rattle.cmf.specs.Places.{nextEditable}
 use Rattle.cmf.specs.declared.place.Found.{Found}
 use Rattle.cmf.specs.declared.component.Component.{Component}
-use Rattle.session.specs.Steps.{taken, withIdle}
+use Rattle.session.specs.Answers.{taken, withIdle}
 use Rattle.session.specs.Visits.{pressed, movedTo, movedOn, followed, followedSheet, visitStep, visitSheet}
-use Rattle.session.specs.Event.{stepIn, sheetIn, stepOf, sheetOf}
+use Rattle.session.specs.Step.{stepIn, sheetIn, stepOf, sheetOf}
 use Rattle.session.specs.declared.session.Mode.{Mode}
 use Rattle.session.specs.declared.session.Mode.the-variants as mode
 use Rattle.session.specs.declared.session.Session.{Session}
-use Rattle.session.specs.declared.step.Stepped.{Stepped}
+use Rattle.session.specs.declared.answer.Stepped.{Stepped}
 
 -- ---- keys that are no cursor key and no ENTER
 

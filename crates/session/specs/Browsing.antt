@@ -12,11 +12,11 @@ use Rattle.cmf.specs.declared.place.Found.{Found}
 use Rattle.cmf.specs.declared.place.Found.the-variants.{At, Nothing}
 use Rattle.session.specs.Session.{level, noLevel}
 use Rattle.session.specs.Fits.{cursorLine, cursorHead}
-use Rattle.session.specs.Steps.{taken, flash, withIdle, showing, withHere, visiting, entering}
+use Rattle.session.specs.Answers.{taken, flash, withIdle, showing, withHere, inVisit, inEntry}
 use Rattle.session.specs.Seconds.{browseSecond}
 use Rattle.session.specs.Events.{up, down, left, right, enter, second}
 use Rattle.session.specs.declared.session.Session.{Session}
-use Rattle.session.specs.declared.step.Stepped.{Stepped}
+use Rattle.session.specs.declared.answer.Stepped.{Stepped}
 
 -- ---- the cursor line
 
@@ -53,14 +53,14 @@ descended s t =
 unfoldable pub rightStep : List ℕ → Session → Stepped
 rightStep im s =
     if cursorHead im (s .here) .submenu then
-    (if cursorHead im (s .here) .protected then taken (entering s 0 (s .typed)) else descended s (cursorHead im (s .here) .table))
+    (if cursorHead im (s .here) .protected then taken (inEntry s 0 (s .typed)) else descended s (cursorHead im (s .here) .table))
     else flash s
 
 -- ---- visits
 
 -- a visit begins with a copy of the field's value, or of its default where that is out of range
 abbrev pub visitAt : List ℕ → List ℕ → Session → ImagePlace → Session
-visitAt im sheet s p = visiting s p (begun (componentAt im (p .0) .field) sheet)
+visitAt im sheet s p = inVisit s p (begun (componentAt im (p .0) .field) sheet)
 
 -- ENTER opens a visit to the first editable component of the cursor line, and flashes where there is none
 unfoldable pub enterAt : List ℕ → List ℕ → Session → Found → Stepped

@@ -5,7 +5,7 @@ use mathlib.Core.List.{List, [], _∷_}
 use lib.ListN.{getD, take}
 use Rattle.laws.specs.Choice.{if_then_else_, _and_, _=?_, _<?_, _≤?_}
 use Rattle.laws.specs.Bytes.{byteAt}
-use Rattle.field.specs.Table.{profileOf}
+use Rattle.field.specs.Profiles.{profileOf}
 use Rattle.field.specs.Cells.{legal}
 use Rattle.field.specs.declared.kind.Kind.{Kind}
 use Rattle.field.specs.declared.work.Work.{Work}
@@ -26,15 +26,15 @@ leastColumns = 14
 abbrev pub mostColumns : ℕ
 mostColumns = 20
 
-abbrev pub leastRows : ℕ
-leastRows = 2
+abbrev pub leastLines : ℕ
+leastLines = 2
 
-abbrev pub mostRows : ℕ
-mostRows = 4
+abbrev pub mostDisplayLines : ℕ
+mostDisplayLines = 4
 
 unfoldable pub shapeFits : ℕ → ℕ → Bool
 shapeFits columns lines =
-    ((leastColumns ≤? columns) and (columns ≤? mostColumns)) and ((leastRows ≤? lines) and (lines ≤? mostRows))
+    ((leastColumns ≤? columns) and (columns ≤? mostColumns)) and ((leastLines ≤? lines) and (lines ≤? mostDisplayLines))
 
 -- the place of a level's cursor line, and that line's head
 abbrev pub cursorLine : List ℕ → Level → ℕ
@@ -60,9 +60,9 @@ unfoldable pub tablesFit : List ℕ → Session → Bool
 tablesFit im s = (s .outer <? deepestTable) and levelsFit im (s .lines) prologBytes (take (s .outer) (s .above)) (s .here)
 
 -- a place is one of a list
-unfoldable pub among : ℕ → List ℕ → Bool
-among p [] = false
-among p (q ∷ qs) = if q =? p then true else among p qs
+unfoldable pub isIn : ℕ → List ℕ → Bool
+isIn p [] = false
+isIn p (q ∷ qs) = if q =? p then true else isIn p qs
 
 -- the working copy of a visit has a chosen cell or part of the field, and legal cells; a trigger has no value, so nothing is asked of its cells
 unfoldable pub workFits : Kind → Work → Bool
@@ -71,8 +71,8 @@ workFits k w = (w .at <? profileOf k .cells) and (if profileOf k .fires then tru
 -- an open visit, with working copy w, is of an editable field or trigger on the cursor line; `line` is where that line stands, here and below
 unfoldable pub visitFits : List ℕ → ℕ → Work → ℕ → Bool
 visitFits im line w p =
-    among p (componentsOf im line)
-    and (componentAt im p .holds and (componentAt im p .editable and workFits (componentAt im p .field .kind) w))
+    isIn p (componentsOf im line)
+    and (componentAt im p .fielded and (componentAt im p .editable and workFits (componentAt im p .field .kind) w))
 
 -- the first n numbers are digits
 unfoldable pub digitsTo : List ℕ → ℕ → Bool

@@ -1,9 +1,9 @@
 pub mod Session
 pub mod Fits
 pub mod Events
-pub mod Steps
+pub mod Answers
 pub mod Seconds
 pub mod Browsing
 pub mod Passwords
 pub mod Visits
-pub mod Event
+pub mod Step

@@ -8,13 +8,13 @@ use Rattle.laws.specs.Bytes.{byteAt}
 use Rattle.laws.specs.Digits.{digit0}
 use Rattle.cmf.specs.declared.head.Head.{Head}
 use Rattle.session.specs.Fits.{cursorHead}
-use Rattle.session.specs.Steps.{taken, flash, withIdle, doing, browsing, entering}
+use Rattle.session.specs.Answers.{taken, flash, withIdle, inMode, browsing, inEntry}
 use Rattle.session.specs.Browsing.{descended}
 use Rattle.session.specs.Seconds.{entrySecond}
 use Rattle.session.specs.Events.{lastDigitKey, left, second}
 use Rattle.session.specs.declared.session.Mode.the-variants as mode
 use Rattle.session.specs.declared.session.Session.{Session}
-use Rattle.session.specs.declared.step.Stepped.{Stepped}
+use Rattle.session.specs.declared.answer.Stepped.{Stepped}
 
 -- the first n digits typed are those of the password whose digits stand from a place on
 unfoldable pub rightTo : List ℕ → ℕ → List ℕ → ℕ → Bool
@@ -22,18 +22,18 @@ rightTo im at ds zero = true
 rightTo im at ds (suc n) = rightTo im at ds n and (byteAt im (at + n) =? digit0 + getD ds n 0)
 
 -- the entry is over, with these digits typed
-abbrev pub entered : Session → List ℕ → Session
-entered s ds = doing s mode.Browsing (s .work) ds
+abbrev pub entryOver : Session → List ℕ → Session
+entryOver s ds = inMode s mode.Browsing (s .work) ds
 
 -- all digits are typed: the submenu opens if they are right, else the entry ends with a flash
 unfoldable pub lastDigit : List ℕ → Session → Head → List ℕ → ℕ → Stepped
 lastDigit im s h ds n =
-    if rightTo im (h .password + 1) ds n then descended (entered s ds) (h .table) else flash (entered s ds)
+    if rightTo im (h .password + 1) ds n then descended (entryOver s ds) (h .table) else flash (entryOver s ds)
 
 -- a digit behind n others
 unfoldable pub digitStep : List ℕ → Session → Head → ℕ → ℕ → Stepped
 digitStep im s h n d =
-    if n + 1 <? byteAt im (h .password) then taken (entering s (n + 1) (set (s .typed) n d))
+    if n + 1 <? byteAt im (h .password) then taken (inEntry s (n + 1) (set (s .typed) n d))
     else lastDigit im s h (set (s .typed) n d) (n + 1)
 
 -- R24: LEFT gives up and is taken; a second counts; any other key flashes

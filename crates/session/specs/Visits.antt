@@ -2,7 +2,7 @@
 use Prim.Native.Nat.{ℕ}
 use mathlib.Core.List.{List}
 use Rattle.laws.specs.Choice.{if_then_else_, _=?_, _≤?_}
-use Rattle.field.specs.Table.{profileOf, cellOf}
+use Rattle.field.specs.Profiles.{profileOf, cellOf}
 use Rattle.keys.specs.Keys as key
 use Rattle.field.specs.Sheet.{finishedIn}
 use Rattle.field.specs.declared.kind.Kind.{Kind}
@@ -16,12 +16,12 @@ use Rattle.cmf.specs.Readers.{componentAt}
 use Rattle.cmf.specs.Places.{nextEditable}
 use Rattle.cmf.specs.declared.place.Found.{Found}
 use Rattle.cmf.specs.declared.place.Found.the-variants.{At, Nothing}
-use Rattle.session.specs.Steps.{taken, flash, withIdle, browsing, visiting}
+use Rattle.session.specs.Answers.{taken, flash, withIdle, browsing, inVisit}
 use Rattle.session.specs.Browsing.{visitAt}
 use Rattle.session.specs.Events.{lastDigitKey, up, down, left, right, enter, second}
 use Rattle.session.specs.declared.session.Session.{Session}
-use Rattle.session.specs.declared.step.Answer.the-variants as answer
-use Rattle.session.specs.declared.step.Stepped.{Stepped}
+use Rattle.session.specs.declared.answer.Answer.the-variants as answer
+use Rattle.session.specs.declared.answer.Stepped.{Stepped}
 
 -- each key has its rule in `field`: the cursor keys and digits go by the rows of the kind and of the chosen cell, ENTER by the kind; R26: POINT flashes
 unfoldable pub pressed : Kind → Work → ℕ → Pressed
@@ -44,9 +44,9 @@ movedOn im sheet s p = movedTo im sheet s (nextEditable im p)
 
 -- what follows from a key's outcome with this working copy. The last ENTER stores, and R28: a trigger that is passed by is no finished visit
 unfoldable pub followed : List ℕ → List ℕ → Session → ImagePlace → Field → Work → Outcome → Stepped
-followed im sheet s p f w outcome.Taken = taken (visiting s p w)
+followed im sheet s p f w outcome.Taken = taken (inVisit s p w)
 followed im sheet s p f w outcome.Flash = flash s
-followed im sheet s p f w outcome.NextPart = taken (visiting s p w)
+followed im sheet s p f w outcome.NextPart = taken (inVisit s p w)
 followed im sheet s p f w outcome.Done =
     record { session = movedOn im (finishedIn f w sheet) s (p .0); answer = answer.Finished p }
 followed im sheet s p f w outcome.Fired = record { session = s; answer = answer.Fired p }

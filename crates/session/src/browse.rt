@@ -2,11 +2,11 @@
 ghost use mathlib.Core.Path.{_≡_};
 ghost use Prim.Native.Nat.{_-_, _<_};
 ghost use Rattle.session.specs.Browsing.{firstFor, cursorOn, upStep, downStep, leftStep, descended, rightStep, visitAt, enterStep, browseStep};
-use crate::fits::less_one;
+use crate::answer::Stepped;
+use crate::fits::rows_below;
 use crate::session::Level;
 use crate::session::Mode;
 use crate::session::Session;
-use crate::step::Stepped;
 use cmf::component::read_component;
 use cmf::image::Image;
 use cmf::place::Found;
@@ -39,7 +39,7 @@ impl Session {
     {
         let here = self.here;
         let table = here.table;
-        let first = first_for(less_one(self.lines), cursor, here.first);
+        let first = first_for(rows_below(self.lines), cursor, here.first);
         let level = Level {
             table,
             cursor,
@@ -110,7 +110,7 @@ impl Session {
             if h.protected {
                 let work = self.work;
                 let typed = self.typed;
-                return self.doing(Mode::Password(0), work, typed).taken();
+                return self.in_mode(Mode::Password(0), work, typed).taken();
             }
             return self.descend(h.table);
         }
@@ -125,7 +125,7 @@ impl Session {
         let field = c.field;
         let work = field.begin(sheet);
         let typed = self.typed;
-        self.doing(Mode::Visit(place), work, typed)
+        self.in_mode(Mode::Visit(place), work, typed)
     }
 
     fn enter(self, image: &[u8], sheet: &[u8]) -> Stepped
@@ -143,15 +143,15 @@ impl Session {
     pub(crate) fn browse(self, image: &[u8], sheet: &[u8], event: u8) -> Stepped
         ensures { λ r. ⌜ r ≡ browseStep (now (image .entry)) (now (sheet .entry)) self event ⌝ }
     {
-        let awake = self.awake();
+        let active = self.reset_idle();
         match event {
-            Session::UP => awake.up(),
-            Session::DOWN => awake.down(image),
-            Session::LEFT => awake.left(),
-            Session::RIGHT => awake.right(image),
-            Session::ENTER => awake.enter(image, sheet),
+            Session::UP => active.up(),
+            Session::DOWN => active.down(image),
+            Session::LEFT => active.left(),
+            Session::RIGHT => active.right(image),
+            Session::ENTER => active.enter(image, sheet),
             Session::SECOND => self.browse_second(image),
-            _ => awake.flash(),
+            _ => active.flash(),
         }
     }
 }

@@ -6,7 +6,7 @@ ghost use Rattle.laws.specs.Choice.{_and_, _<?_};
 ghost use Rattle.cmf.specs.Limits.{prologBytes, deepestTable};
 ghost use Rattle.cmf.specs.Places.{componentsOf, foundIf};
 ghost use Rattle.session.specs.Session.{noLevel};
-ghost use Rattle.session.specs.Fits.{shapeFits, cursorLine, cursorHead, levelFits, levelsFit, among, workFits, visitFits, digitsTo, entryFits, sessionFits};
+ghost use Rattle.session.specs.Fits.{shapeFits, cursorLine, cursorHead, levelFits, levelsFit, isIn, workFits, visitFits, digitsTo, entryFits, sessionFits};
 use crate::session::Level;
 use crate::session::Mode;
 use crate::session::Session;
@@ -19,7 +19,7 @@ use cmf::place::line_at;
 use cmf::place::reach;
 use field::kind::ImagePlace;
 use field::kind::Kind;
-use field::table::profile_of;
+use field::profile::profile_of;
 use field::work::Work;
 use laws::byte_at;
 
@@ -33,14 +33,14 @@ pub fn shape_fits(columns: u8, lines: u8) -> bool
     if Session::MAX_COLUMNS < columns {
         return false;
     }
-    if lines < Session::MIN_ROWS {
+    if lines < Session::MIN_LINES {
         return false;
     }
-    lines <= Session::MAX_ROWS
+    lines <= Session::MAX_LINES
 }
 
 // One less, or 0.
-pub(crate) fn less_one(lines: u8) -> usize
+pub(crate) fn rows_below(lines: u8) -> usize
     ensures { λ r. ⌜ r ≡ lines - 1 ⌝ }
 {
     if lines == 0 {
@@ -74,7 +74,7 @@ impl Level {
         }
         let cursor = self.cursor as usize;
         let first = self.first as usize;
-        let shown = less_one(lines);
+        let shown = rows_below(lines);
         if cursor < first {
             return Found::Nothing;
         }
@@ -87,7 +87,7 @@ impl Level {
 
 // Whether a place is that of a component of a line.
 fn is_on_line(image: &[u8], line: usize, place: usize) -> bool
-    ensures { λ r. ⌜ r ≡ among place (componentsOf (now (image .entry)) line) ⌝ }
+    ensures { λ r. ⌜ r ≡ isIn place (componentsOf (now (image .entry)) line) ⌝ }
 {
     let h = read_head(image, line);
     let mut c = h.component;
@@ -180,7 +180,7 @@ fn visit_fits(image: &[u8], line: usize, place: usize, work: Work) -> bool
         return false;
     }
     let c = read_component(image, place);
-    if !c.holds {
+    if !c.fielded {
         return false;
     }
     if !c.editable {

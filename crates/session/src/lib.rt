@@ -1,6 +1,6 @@
 // The session of a sitting, by value: its tables and cursor lines, and what it is doing.
+pub mod answer;
 pub mod browse;
-pub mod event;
 pub mod fits;
 pub mod password;
 pub mod second;

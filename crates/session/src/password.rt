@@ -3,11 +3,11 @@ ghost use mathlib.Core.Path.{_≡_};
 ghost use Prim.Native.Nat.{_+_, _≤_};
 ghost use lib.ListN.{set};
 ghost use Rattle.session.specs.Fits.{cursorHead};
-ghost use Rattle.session.specs.Steps.{taken, browsing};
+ghost use Rattle.session.specs.Answers.{taken, browsing};
 ghost use Rattle.session.specs.Passwords.{rightTo, lastDigit, digitStep, entryStep};
+use crate::answer::Stepped;
 use crate::session::Mode;
 use crate::session::Session;
-use crate::step::Stepped;
 use cmf::head::Head;
 use cmf::image::Image;
 use laws::byte_at;
@@ -57,7 +57,7 @@ impl Session {
     {
         let right = is_right(image, h.password, typed, count);
         let work = self.work;
-        let next = self.doing(Mode::Browsing, work, typed);
+        let next = self.in_mode(Mode::Browsing, work, typed);
         if right {
             return next.descend(h.table);
         }
@@ -74,7 +74,7 @@ impl Session {
         let n = count as usize + 1;
         if n < byte_at(image, h.password) as usize {
             let work = self.work;
-            return self.doing(Mode::Password(count + 1), work, typed).taken();
+            return self.in_mode(Mode::Password(count + 1), work, typed).taken();
         }
         self.last_digit(image, h, typed, n)
     }
@@ -84,19 +84,19 @@ impl Session {
     {
         let work = self.work;
         let typed = self.typed;
-        self.doing(Mode::Browsing, work, typed).taken()
+        self.in_mode(Mode::Browsing, work, typed).taken()
     }
 
     // A step during the entry of a password, with count digits typed.
     pub(crate) fn enter_password(self, image: &[u8], count: u8, event: u8) -> Stepped
         ensures { λ r. ⌜ r ≡ entryStep (now (image .entry)) self count event ⌝ }
     {
-        let awake = self.awake();
+        let active = self.reset_idle();
         match event {
             Session::SECOND => self.entry_second(image),
-            Session::LEFT => awake.give_up(),
-            0..=Session::LAST_DIGIT => awake.type_digit(image, count, event),
-            _ => awake.flash(),
+            Session::LEFT => active.give_up(),
+            0..=Session::LAST_DIGIT => active.type_digit(image, count, event),
+            _ => active.flash(),
         }
     }
 }

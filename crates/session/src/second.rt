@@ -1,10 +1,10 @@
 // A second that passes: the idle count, and what it ends.
 ghost use mathlib.Core.Path.{_≡_};
-ghost use Rattle.session.specs.Seconds.{later, passed, waited, atTop, browseSecond, entrySecond};
+ghost use Rattle.session.specs.Seconds.{later, delayOver, waited, atTop, browseSecond, entrySecond};
+use crate::answer::Stepped;
 use crate::session::Level;
 use crate::session::Mode;
 use crate::session::Session;
-use crate::step::Stepped;
 use cmf::image::Image;
 use field::kind::ImagePlace;
 
@@ -18,8 +18,8 @@ fn later(idle: u8) -> u8
 }
 
 // Whether a delay has passed; 0 stands for never.
-fn passed(delay: u8, idle: u8) -> bool
-    ensures { λ r. ⌜ r ≡ passed delay idle ⌝ }
+fn delay_over(delay: u8, idle: u8) -> bool
+    ensures { λ r. ⌜ r ≡ delayOver delay idle ⌝ }
 {
     if delay == 0 {
         return false;
@@ -53,9 +53,9 @@ impl Session {
     pub(crate) fn browse_second(self, image: &[u8]) -> Stepped
         ensures { λ r. ⌜ r ≡ browseSecond (now (image .entry)) self ⌝ }
     {
-        let delays = Image::read(image);
+        let read = Image::read(image);
         let next = self.waited();
-        let over = passed(delays.top, later(self.idle));
+        let over = delay_over(read.delays.top, later(self.idle));
         if over {
             return next.at_top().taken();
         }
@@ -66,13 +66,13 @@ impl Session {
     pub(crate) fn entry_second(self, image: &[u8]) -> Stepped
         ensures { λ r. ⌜ r ≡ entrySecond (now (image .entry)) self ⌝ }
     {
-        let delays = Image::read(image);
+        let read = Image::read(image);
         let next = self.waited();
-        let over = passed(delays.entry, later(self.idle));
+        let over = delay_over(read.delays.password, later(self.idle));
         if over {
             let work = self.work;
             let typed = self.typed;
-            return next.doing(Mode::Browsing, work, typed).taken();
+            return next.in_mode(Mode::Browsing, work, typed).taken();
         }
         next.taken()
     }

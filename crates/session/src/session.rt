@@ -56,9 +56,9 @@ impl Session {
 
     pub const MAX_COLUMNS: u8 = 20;
 
-    pub const MIN_ROWS: u8 = 2;
+    pub const MIN_LINES: u8 = 2;
 
-    pub const MAX_ROWS: u8 = 4;
+    pub const MAX_LINES: u8 = 4;
 
     // The idle count stays here.
     pub const MAX_IDLE: u8 = 255;

@@ -1,78 +1,20 @@
-// What an event answers, and a session with something changed.
+// A step of the session: what an event makes of it, by its mode.
 ghost use mathlib.Core.Path.{_≡_};
-ghost use Rattle.session.specs.Steps.{taken, flash, withIdle, withHere, doing};
-use crate::session::Level;
+ghost use Rattle.session.specs.Step.{stepOf, sheetOf};
+use crate::answer::Stepped;
 use crate::session::Mode;
 use crate::session::Session;
-use cmf::image::Image;
-use field::kind::ImagePlace;
-use field::work::Work;
-
-// The paper's answers. Taken: the event was heeded. Flash: it could not be. Finished: a visit of the field at a place was finished.
-// Fired: the trigger at a place was fired. Refused: with the refusal number.
-pub enum Answer {
-    Taken,
-    Flash,
-    Finished(ImagePlace),
-    Fired(ImagePlace),
-    Refused(u8),
-}
-
-pub struct Stepped {
-    pub session: Session,
-    pub answer: Answer,
-}
 
 impl Session {
-    pub(crate) fn taken(self) -> Stepped
-        ensures { λ r. ⌜ r ≡ taken self ⌝ }
+    pub fn step(self, image: &[u8], sheet: &mut [u8], event: u8) -> Stepped
+        ensures { λ r. ⌜ r ≡ stepOf (now (image .entry)) (now (sheet .entry)) self event ⌝ }
+        ensures { λ _. ⌜ now (sheet .exit) ≡ sheetOf (now (image .entry)) (now (sheet .entry)) self event ⌝ }
     {
-        Stepped {
-            session: self,
-            answer: Answer::Taken,
-        }
-    }
-
-    pub(crate) fn flash(self) -> Stepped
-        ensures { λ r. ⌜ r ≡ flash self ⌝ }
-    {
-        Stepped {
-            session: self,
-            answer: Answer::Flash,
-        }
-    }
-
-    // Any key makes the idle count 0.
-    pub(crate) fn awake(mut self) -> Self
-        ensures { λ r. ⌜ r ≡ withIdle self 0 ⌝ }
-    {
-        self.idle = 0;
-        self
-    }
-
-    pub(crate) fn with_here(mut self, here: Level) -> Self
-        ensures { λ r. ⌜ r ≡ withHere self here ⌝ }
-    {
-        self.here = here;
-        self
-    }
-
-    // Another mode, working copy and digits typed.
-    pub(crate) fn doing(self, mode: Mode, work: Work, typed: [u8; Image::MAX_PASSWORD]) -> Self
-        ensures { λ r. ⌜ r ≡ doing self mode work typed ⌝ }
-    {
-        let above = self.above;
-        let here = self.here;
-        Session {
-            columns: self.columns,
-            lines: self.lines,
-            outer: self.outer,
-            above,
-            here,
-            idle: self.idle,
-            mode,
-            work,
-            typed,
+        let mode = self.mode;
+        match mode {
+            Mode::Browsing => self.browse(image, &*sheet, event),
+            Mode::Visit(p) => self.visit(image, &mut *sheet, p, event),
+            Mode::Password(n) => self.enter_password(image, n, event),
         }
     }
 }

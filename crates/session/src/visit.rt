@@ -1,21 +1,21 @@
 // A visit: what a key makes of the working copy, and what follows from it.
 ghost use mathlib.Core.Path.{_≡_};
 ghost use Rattle.field.specs.Sheet.{finishedIn};
-ghost use Rattle.session.specs.Steps.{visiting};
+ghost use Rattle.session.specs.Answers.{inVisit};
 ghost use Rattle.session.specs.Visits.{pressed, movedOn, followed, followedSheet, visitStep, visitSheet};
 ghost use Rattle.keys.specs.declared.press.Outcome.the-variants as outcome;
+use crate::answer::Answer;
+use crate::answer::Stepped;
 use crate::session::Mode;
 use crate::session::Session;
-use crate::step::Answer;
-use crate::step::Stepped;
 use cmf::component::read_component;
 use cmf::place::Found;
 use cmf::place::next_editable;
 use field::kind::ImagePlace;
 use field::kind::Kind;
+use field::profile::cell_of;
+use field::profile::profile_of;
 use field::record::Field;
-use field::table::cell_of;
-use field::table::profile_of;
 use field::work::Work;
 use keys::press::Outcome;
 use keys::press::Pressed;
@@ -47,11 +47,11 @@ fn press(kind: Kind, work: Work, event: u8) -> Pressed
 }
 
 impl Session {
-    fn at_work(self, place: ImagePlace, work: Work) -> Self
-        ensures { λ r. ⌜ r ≡ visiting self place work ⌝ }
+    fn in_visit(self, place: ImagePlace, work: Work) -> Self
+        ensures { λ r. ⌜ r ≡ inVisit self place work ⌝ }
     {
         let typed = self.typed;
-        self.doing(Mode::Visit(place), work, typed)
+        self.in_mode(Mode::Visit(place), work, typed)
     }
 
     // The next editable component of the line visited, or editing ended.
@@ -64,7 +64,7 @@ impl Session {
             Found::Nothing => {
                 let work = self.work;
                 let typed = self.typed;
-                self.doing(Mode::Browsing, work, typed)
+                self.in_mode(Mode::Browsing, work, typed)
             }
         }
     }
@@ -104,9 +104,9 @@ impl Session {
         let work = pressed.work;
         let outcome = pressed.outcome;
         match outcome {
-            Outcome::Taken => self.at_work(place, work).taken(),
+            Outcome::Taken => self.in_visit(place, work).taken(),
             Outcome::Flash => self.flash(),
-            Outcome::NextPart => self.at_work(place, work).taken(),
+            Outcome::NextPart => self.in_visit(place, work).taken(),
             Outcome::Done => self.finish(image, &mut *sheet, place, field, work),
             Outcome::Fired => Stepped {
                 session: self,
@@ -135,7 +135,7 @@ impl Session {
         let kind = field.kind;
         let work = self.work;
         let pressed = press(kind, work, event);
-        self.awake()
+        self.reset_idle()
             .follow(image, &mut *sheet, place, field, pressed)
     }
 }

@@ -71,7 +71,7 @@ fn print_listed(image: &[u8], sheet: &[u8], index: &[usize], count: usize) {
 // Each field in the order of the walk: where it stands in the image, where its bytes lie in the sheet, and the bytes.
 pub fn print_fields(image: &[u8], sheet: &[u8]) {
     let c = check(image, sheet.len());
-    let fields = c.walk.fields;
+    let fields = c.progress.fields;
     let index = c.index;
     print_listed(image, sheet, &index, fields);
 }
@@ -101,13 +101,13 @@ pub fn print_reach(image: &[u8], sheet: usize, refusal: u8) {
         return;
     }
     let c = check(image, sheet);
-    let fields = c.walk.fields;
+    let fields = c.progress.fields;
     let index = c.index;
     say(b"good before the fault: line heads ");
-    say_number(c.walk.lines);
+    say_number(c.progress.lines);
     say(b", fields ");
     say_number(fields);
     print_last(&index, fields);
     say(b"\n");
-    print_end(c.walk.at);
+    print_end(c.progress.at);
 }

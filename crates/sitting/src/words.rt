@@ -1,8 +1,8 @@
 // Answers, keys and refusal numbers in words.
 use laws::byte_at;
 use libc::STDOUT_FILENO;
+use session::answer::Answer;
 use session::session::Session;
-use session::step::Answer;
 
 pub fn say(text: &[u8]) {
     io::write_all(STDOUT_FILENO, text);

@@ -11,19 +11,19 @@ use Rattle.laws.specs.Choice.{if_then_else_, _≤?_, _and_}
 use Rattle.laws.proofs.Cases.{if-eq, if-ne, if-lt, if-ge, if-true, if-false}
 use Rattle.laws.specs.Overwrite.{fit, over}
 use Rattle.laws.proofs.Overwriting.{over-nil, over-next}
-use Rattle.field.specs.Settings.{places}
-use Rattle.field.specs.Table.{profileOf, cellOf}
+use Rattle.field.specs.Settings.{digitCount}
+use Rattle.field.specs.Profiles.{profileOf, cellOf}
 use Rattle.field.specs.Values.{numberOf, valueAt}
 use Rattle.field.specs.Cells.{cellsOf, within, inRange, workOf}
 use Rattle.field.proofs.Ranges.{range-of-option, range-of-trigger}
 use Rattle.field.specs.declared.kind.Kind.the-variants.{Option, Trigger}
 use Rattle.field.specs.declared.numeral.Numeral.{Numeral}
 use Rattle.field.specs.declared.record.Field.{Field}
-use Rattle.field.specs.declared.table.Profile.{Profile}
+use Rattle.field.specs.declared.profile.Profile.{Profile}
 use Rattle.field.specs.declared.value.Value.{Value}
 use Rattle.field.specs.declared.work.Work.{Work}
 use Rattle.cmf.specs.Readers.{textBytes, itemPlace}
-use Rattle.cmf.proofs.Usual.{one-byte}
+use Rattle.cmf.proofs.Shortcuts.{one-byte}
 use Rattle.laws.specs.Digits.{digit0}
 use Rattle.texts.specs.Row.{Put}
 use Rattle.texts.specs.Texts.{blank, dash, colon, digitChar, signChar, digitCells, numeralText, decimal, countText, alignedRight, paddedRight, timeText, triggerText, cellsText, widthOf, hash, sheetNumber, fieldText}
@@ -72,7 +72,7 @@ numeral-signed n cs d b h e f g k = same (sym (if-ne (n .signs) 0 _ _ h)) (behin
 
 -- ---- counters
 
-pub count-below : {x y u z : List ℕ} {at m o r : ℕ} (w v n k : ℕ) → v < 32768 → n ≡ places (32768 - v) → k ≡ w - (1 + n) → Put x at (replicate k blank) y m
+pub count-below : {x y u z : List ℕ} {at m o r : ℕ} (w v n k : ℕ) → v < 32768 → n ≡ digitCount (32768 - v) → k ≡ w - (1 + n) → Put x at (replicate k blank) y m
     → Put y m (dash ∷ []) u o → Put u o (decimal n (32768 - v)) z r → Put x at (alignedRight w (countText v)) z r
 unfolding countText
 count-below w v n k h e f a b d =
@@ -80,7 +80,7 @@ count-below w v n k h e f a b d =
     let l : w - length (dash ∷ decimal n (32768 - v)) ≡ k = omega (arith, length-decimal n (32768 - v)) in
     rw (t, l) (behind a (behind b d))
 
-pub count-above : {x y z : List ℕ} {at m r : ℕ} (w v n k : ℕ) → 32768 ≤ v → n ≡ places (v - 32768) → k ≡ w - n → Put x at (replicate k blank) y m
+pub count-above : {x y z : List ℕ} {at m r : ℕ} (w v n k : ℕ) → 32768 ≤ v → n ≡ digitCount (v - 32768) → k ≡ w - n → Put x at (replicate k blank) y m
     → Put y m (decimal n (v - 32768)) z r → Put x at (alignedRight w (countText v)) z r
 unfolding countText
 count-above w v n k h e f a d =

@@ -9,9 +9,9 @@ use borrow.Author.Tests.{leb-true, eqb-true, eqb-false, ltb-true, ltb-false}
 use Rattle.laws.specs.Choice.{if_then_else_, _and_, _=?_, _<?_}
 use Rattle.laws.proofs.Cases.{if-ind, by-test, if-lt, if-ge, if-max, and-l, and-r}
 use Rattle.field.specs.Formats.{signsOf, numeralOf, bitsOf}
-use Rattle.field.specs.Table.{profileOf, cellOf}
+use Rattle.field.specs.Profiles.{profileOf, cellOf}
 use Rattle.field.specs.Cells.{within, legalTo, legal}
-use Rattle.field.specs.Settings.{places, countedCells, widthFits, goodSettings, settingsFit}
+use Rattle.field.specs.Settings.{digitCount, countedCells, widthFits, kindFits, settingsFit}
 use Rattle.field.specs.declared.kind.Kind.{Kind}
 use Rattle.field.specs.declared.kind.Kind.the-variants.{Integer, Counter, Time, Date, Switch, Option, Trigger}
 use Rattle.field.specs.declared.kind.CounterSettings.{CounterSettings}
@@ -55,9 +55,9 @@ unfolding countText countedCells
 count-width x =
     by-test (x <? 32768)
     (λ e. let h = ltb-true x 32768 e in
-    rw (if-lt x 32768 (dash ∷ plain (32768 - x)) (plain (x - 32768)) h, if-lt x 32768 (1 + places (32768 - x)) (places (x - 32768)) h) (ap suc (length-decimal (places (32768 - x)) (32768 - x)) ∙ omega arith))
+    rw (if-lt x 32768 (dash ∷ plain (32768 - x)) (plain (x - 32768)) h, if-lt x 32768 (1 + digitCount (32768 - x)) (digitCount (x - 32768)) h) (ap suc (length-decimal (digitCount (32768 - x)) (32768 - x)) ∙ omega arith))
     (λ e. let h = ltb-false x 32768 e in
-    rw (if-ge x 32768 (dash ∷ plain (32768 - x)) (plain (x - 32768)) h, if-ge x 32768 (1 + places (32768 - x)) (places (x - 32768)) h) (length-decimal (places (x - 32768)) (x - 32768)))
+    rw (if-ge x 32768 (dash ∷ plain (32768 - x)) (plain (x - 32768)) h, if-ge x 32768 (1 + digitCount (32768 - x)) (digitCount (x - 32768)) h) (length-decimal (digitCount (x - 32768)) (x - 32768)))
 
 aligned-width : (w : ℕ) (s : List ℕ) → length s ≤ w → length (alignedRight w s) ≡ w
 aligned-width w s h = length-append (replicate (w - length s) blank) s ∙ omega (arith, length-replicate {A = ℕ} (w - length s) blank)
@@ -91,31 +91,31 @@ cells-width im p Trigger cs r = refl
 
 -- at most and at least so many digits, by the powers of ten that a number has reached
 module _ (x b : ℕ) where
-  at-most : 1 ≤ b → (10 ≤ x → 2 ≤ b) → (100 ≤ x → 3 ≤ b) → (1000 ≤ x → 4 ≤ b) → (10000 ≤ x → 5 ≤ b) → places x ≤ b
-  unfolding places
+  at-most : 1 ≤ b → (10 ≤ x → 2 ≤ b) → (100 ≤ x → 3 ≤ b) → (1000 ≤ x → 4 ≤ b) → (10000 ≤ x → 5 ≤ b) → digitCount x ≤ b
+  unfolding digitCount
   at-most one two three four five =
       if-ind (λ (n : ℕ). n ≤ b) (x <? 10) (λ _. one)
       (λ e. if-ind (λ (n : ℕ). n ≤ b) (x <? 100) (λ _. two (ltb-false x 10 e))
       (λ f. if-ind (λ (n : ℕ). n ≤ b) (x <? 1000) (λ _. three (ltb-false x 100 f))
       (λ g. if-ind (λ (n : ℕ). n ≤ b) (x <? 10000) (λ _. four (ltb-false x 1000 g)) (λ h. five (ltb-false x 10000 h)))))
 
-  at-least : (x < 10 → b ≤ 1) → (x < 100 → b ≤ 2) → (x < 1000 → b ≤ 3) → (x < 10000 → b ≤ 4) → b ≤ 5 → b ≤ places x
-  unfolding places
+  at-least : (x < 10 → b ≤ 1) → (x < 100 → b ≤ 2) → (x < 1000 → b ≤ 3) → (x < 10000 → b ≤ 4) → b ≤ 5 → b ≤ digitCount x
+  unfolding digitCount
   at-least one two three four five =
       if-ind (λ (n : ℕ). b ≤ n) (x <? 10) (λ e. one (ltb-true x 10 e))
       (λ _. if-ind (λ (n : ℕ). b ≤ n) (x <? 100) (λ e. two (ltb-true x 100 e))
       (λ _. if-ind (λ (n : ℕ). b ≤ n) (x <? 1000) (λ e. three (ltb-true x 1000 e))
       (λ _. if-ind (λ (n : ℕ). b ≤ n) (x <? 10000) (λ e. four (ltb-true x 10000 e)) (λ _. five))))
 
-places-grow : (x y : ℕ) → x ≤ y → places x ≤ places y
+places-grow : (x y : ℕ) → x ≤ y → digitCount x ≤ digitCount y
 places-grow x y h =
-    at-most x (places y) (reach 1 (λ e. omega arith) (λ e. omega arith) (λ e. omega arith) (λ e. omega arith) (omega arith))
+    at-most x (digitCount y) (reach 1 (λ e. omega arith) (λ e. omega arith) (λ e. omega arith) (λ e. omega arith) (omega arith))
     (λ l. reach 2 (λ e. absurd (omega arith)) (λ e. omega arith) (λ e. omega arith) (λ e. omega arith) (omega arith))
     (λ l. reach 3 (λ e. absurd (omega arith)) (λ e. absurd (omega arith)) (λ e. omega arith) (λ e. omega arith) (omega arith))
     (λ l. reach 4 (λ e. absurd (omega arith)) (λ e. absurd (omega arith)) (λ e. absurd (omega arith)) (λ e. omega arith) (omega arith))
     (λ l. reach 5 (λ e. absurd (omega arith)) (λ e. absurd (omega arith)) (λ e. absurd (omega arith)) (λ e. absurd (omega arith)) (omega arith))
   where
-    reach : (b : ℕ) → (y < 10 → b ≤ 1) → (y < 100 → b ≤ 2) → (y < 1000 → b ≤ 3) → (y < 10000 → b ≤ 4) → b ≤ 5 → b ≤ places y
+    reach : (b : ℕ) → (y < 10 → b ≤ 1) → (y < 100 → b ≤ 2) → (y < 1000 → b ≤ 3) → (y < 10000 → b ≤ 4) → b ≤ 5 → b ≤ digitCount y
     reach b = at-least y b
 
 -- between two numbers no number is wider than both
@@ -124,15 +124,15 @@ unfolding countedCells
 count-between low x high w a b c d =
     by-test (x <? 32768)
     (λ e. let h = ltb-true x 32768 e in
-    rw (if-lt x 32768 (1 + places (32768 - x)) (places (x - 32768)) h)
-    (omega (arith, rw (if-lt low 32768 (1 + places (32768 - low)) (places (low - 32768)) (omega arith)) at c, places-grow (32768 - x) (32768 - low) (omega arith))))
+    rw (if-lt x 32768 (1 + digitCount (32768 - x)) (digitCount (x - 32768)) h)
+    (omega (arith, rw (if-lt low 32768 (1 + digitCount (32768 - low)) (digitCount (low - 32768)) (omega arith)) at c, places-grow (32768 - x) (32768 - low) (omega arith))))
     (λ e. let h = ltb-false x 32768 e in
-    rw (if-ge x 32768 (1 + places (32768 - x)) (places (x - 32768)) h)
-    (omega (arith, rw (if-ge high 32768 (1 + places (32768 - high)) (places (high - 32768)) (omega arith)) at d, places-grow (x - 32768) (high - 32768) (omega arith))))
+    rw (if-ge x 32768 (1 + digitCount (32768 - x)) (digitCount (x - 32768)) h)
+    (omega (arith, rw (if-ge high 32768 (1 + digitCount (32768 - high)) (digitCount (high - 32768)) (omega arith)) at d, places-grow (x - 32768) (high - 32768) (omega arith))))
 
 -- a counter with good settings, at a legal value, has room
-pub counter-room : (s : CounterSettings) (cs : List ℕ) → goodSettings (Counter s) ≡ true → legal (Counter s) cs ≡ true → countedCells (getD cs 0 0) ≤ s .width
-unfolding goodSettings widthFits legal legalTo profileOf cellOf within
+pub counter-room : (s : CounterSettings) (cs : List ℕ) → kindFits (Counter s) ≡ true → legal (Counter s) cs ≡ true → countedCells (getD cs 0 0) ≤ s .width
+unfolding kindFits widthFits legal legalTo profileOf cellOf within
 counter-room s cs g l =
     let w = and-r _ _ g in
     let i = and-r _ _ l in
@@ -162,8 +162,8 @@ texts-short im {at = at} (Texts.more {longest = m} mid t ts) (suc k) h =
 -- ---- every field of the grammar
 
 -- an option with good settings has an item
-option-some : (n w : ℕ) → goodSettings (Option n w) ≡ true → 1 ≤ n
-unfolding goodSettings
+option-some : (n w : ℕ) → kindFits (Option n w) ≡ true → 1 ≤ n
+unfolding kindFits
 option-some n w h = leb-true 1 n h
 
 -- a legal option shows one of its items

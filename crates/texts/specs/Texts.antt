@@ -7,7 +7,7 @@ use Rattle.laws.specs.Choice.{if_then_else_, _=?_, _<?_}
 use Rattle.field.specs.Formats.{signsOf, digitsIn, numeralOf, bitsIn, bitsOf}
 use Rattle.field.specs.Values.{numberOf, valueAt}
 use Rattle.field.specs.Cells.{cellsOf, inRange, workOf}
-use Rattle.field.specs.Settings.{places}
+use Rattle.field.specs.Settings.{digitCount}
 use Rattle.field.specs.Sheet.{sizeOf}
 use Rattle.field.specs.declared.kind.Kind.{Kind}
 use Rattle.field.specs.declared.kind.Kind.the-variants.{Integer, Counter, Time, Date, Switch, Option, Trigger}
@@ -66,7 +66,7 @@ decimal (suc n) x = decimal n (x / 10) ++ ((digit0 + x % 10) ∷ [])
 
 -- a number of at most five digits without leading zeros
 abbrev pub plain : ℕ → List ℕ
-plain x = decimal (places x) x
+plain x = decimal (digitCount x) x
 
 -- 01, Fields: a counter below 0 has a '-' and no other has a sign; the cell holds the number with 32,768 added
 unfoldable pub countText : ℕ → List ℕ

@@ -15,9 +15,9 @@ use crate::row::smaller;
 use cmf::text::item_bytes;
 use field::kind::Kind;
 use field::numeral::Numeral;
+use field::profile::profile_of;
 use field::record::Field;
-use field::settings::places;
-use field::table::profile_of;
+use field::settings::digit_count;
 use field::value::load;
 use field::work::Work;
 use field::work::in_range;
@@ -139,13 +139,13 @@ fn put_counter(row: &mut [u8], at: usize, width: u8, x: u64) -> usize
     let w = width as usize;
     if x < 32768 {
         let size = 32768 - x;
-        let n = places(size);
+        let n = digit_count(size);
         let sign = repeat(&mut *row, at, BLANK, less(w, 1 + n as usize));
         let first = put(&mut *row, sign, b'-');
         return put_decimal(&mut *row, first, n, size);
     }
     let size = x - 32768;
-    let n = places(size);
+    let n = digit_count(size);
     let first = repeat(&mut *row, at, BLANK, less(w, n as usize));
     put_decimal(&mut *row, first, n, size)
 }

@@ -11,7 +11,7 @@ ghost use Rattle.acceptance.specs.Clean.{StaysClean};
 use acceptance::index::Entry;
 use acceptance::index::apart_from;
 use acceptance::index::set_entry;
-use acceptance::state::Walk;
+use acceptance::progress::Progress;
 use cmf::component::Component;
 use cmf::component::read_component;
 use cmf::head::Head;
@@ -26,7 +26,7 @@ const INDEX: usize = 3 * Image::MAX_FIELDS;
 
 // What a check found: how far the walk came and its refusal number, and the fields that it reached, three numbers to a field.
 pub struct Checked {
-    pub walk: Walk,
+    pub progress: Progress,
     pub index: [usize; INDEX],
 }
 
@@ -40,11 +40,11 @@ pub fn is_padded(image: &[u8], at: usize, place: usize) -> bool
     byte_at(image, at) == 0
 }
 
-fn take_title(t: Title, w: Walk) -> Walk
+fn take_title(t: Title, w: Progress) -> Progress
     ensures { λ r. ⌜ r ≡ takeTitle t w ⌝ }
 {
     if t.refusal == 0 {
-        return w.passed(t.end);
+        return w.read_to(t.end);
     }
     w.refused(t.refusal)
 }
@@ -65,7 +65,7 @@ fn is_agreeing(n: usize, before: usize, p: usize, h: Head) -> bool
     false
 }
 
-fn is_placed(image: &[u8], n: usize, before: usize, p: usize, h: Head, w: Walk) -> bool
+fn is_placed(image: &[u8], n: usize, before: usize, p: usize, h: Head, w: Progress) -> bool
     ensures { λ r. ⌜ r ≡ linePlaced (now (image .entry)) n before p h w ⌝ }
 {
     let at = w.at;
@@ -79,7 +79,7 @@ fn is_placed(image: &[u8], n: usize, before: usize, p: usize, h: Head, w: Walk) 
     false
 }
 
-fn count_line(n: usize, h: Head, w: Walk) -> Walk
+fn count_line(n: usize, h: Head, w: Progress) -> Progress
     ensures { λ r. ⌜ r ≡ countLine n h w ⌝ }
 {
     if Image::MAX_TABLE_LINES <= n {
@@ -88,8 +88,8 @@ fn count_line(n: usize, h: Head, w: Walk) -> Walk
     if Image::MAX_LINES <= w.lines {
         return w.refused(8);
     }
-    if h.good {
-        return Walk {
+    if h.typeable {
+        return Progress {
             refusal: 0,
             at: h.end,
             lines: w.lines + 1,
@@ -100,7 +100,7 @@ fn count_line(n: usize, h: Head, w: Walk) -> Walk
 }
 
 // A line's head at p.
-fn take_line(image: &[u8], n: usize, before: usize, p: usize, h: Head, w: Walk) -> Walk
+fn take_line(image: &[u8], n: usize, before: usize, p: usize, h: Head, w: Progress) -> Progress
     ensures { λ r. ⌜ r ≡ takeLine (now (image .entry)) n before p h w ⌝ }
 {
     if h.refusal == 0 {
@@ -114,7 +114,7 @@ fn take_line(image: &[u8], n: usize, before: usize, p: usize, h: Head, w: Walk) 
 }
 
 // A field: counted, its settings, its bytes in the sheet.
-fn take_field(sheet: usize, c: Component, w: Walk, index: &mut [usize]) -> Walk
+fn take_field(sheet: usize, c: Component, w: Progress, index: &mut [usize]) -> Progress
     ensures { λ r. ⌜ seen r (now (index .exit)) ≡ takeField sheet (capacity (now (index .entry))) c (seen w (now (index .entry))) ⌝ }
     ensures { λ r. ⌜ StaysClean (w .fields) (now (index .entry)) (r .fields) (now (index .exit)) ⌝ }
 {
@@ -136,7 +136,7 @@ fn take_field(sheet: usize, c: Component, w: Walk, index: &mut [usize]) -> Walk
         return w.refused(11);
     }
     set_entry(&mut *index, k, entry);
-    Walk {
+    Progress {
         refusal: 0,
         at: c.end,
         lines: w.lines,
@@ -150,9 +150,9 @@ fn take_component(
     sheet: usize,
     p: usize,
     c: Component,
-    w: Walk,
+    w: Progress,
     index: &mut [usize],
-) -> Walk
+) -> Progress
     ensures { λ r. ⌜ seen r (now (index .exit)) ≡ takeComponent (now (image .entry)) sheet (capacity (now (index .entry))) p c (seen w (now (index .entry))) ⌝ }
     ensures { λ r. ⌜ StaysClean (w .fields) (now (index .entry)) (r .fields) (now (index .exit)) ⌝ }
 {
@@ -163,17 +163,23 @@ fn take_component(
     if !zero {
         return w.refused(7);
     }
-    if c.holds {
+    if c.fielded {
         return take_field(sheet, c, w, index);
     }
     if c.refusal != 0 {
         return w.refused(c.refusal);
     }
-    w.passed(c.end)
+    w.read_to(c.end)
 }
 
 // The components of a line, the first of them at p.
-fn check_components(image: &[u8], sheet: usize, p: usize, w: Walk, index: &mut [usize]) -> Walk
+fn check_components(
+    image: &[u8],
+    sheet: usize,
+    p: usize,
+    w: Progress,
+    index: &mut [usize],
+) -> Progress
     ensures { λ r. ⌜ seen r (now (index .exit)) ≡ onComponents (now (image .entry)) sheet (capacity (now (index .entry))) (componentsFrom (now (image .entry)) (length (now (image .entry)) + 1) p) (seen w (now (index .entry))) ⌝ }
     ensures { λ r. ⌜ StaysClean (w .fields) (now (index .entry)) (r .fields) (now (index .exit)) ⌝ }
 {
@@ -203,9 +209,9 @@ fn check_line(
     n: usize,
     before: usize,
     p: usize,
-    w: Walk,
+    w: Progress,
     index: &mut [usize],
-) -> Walk
+) -> Progress
     ensures { λ r. ⌜ seen r (now (index .exit)) ≡ onLine (now (image .entry)) sheet (capacity (now (index .entry))) (onTable (now (image .entry)) sheet (capacity (now (index .entry))) below) n before p (seen w (now (index .entry))) ⌝ }
     ensures { λ r. ⌜ StaysClean (w .fields) (now (index .entry)) (r .fields) (now (index .exit)) ⌝ }
 {
@@ -220,7 +226,7 @@ fn check_line(
     }
     if h.submenu {
         let t = check_table(image, sheet, below, h.table, q, &mut *index);
-        return t.behind(q.at);
+        return t.past_line(q.at);
     }
     q
 }
@@ -231,9 +237,9 @@ fn check_table(
     sheet: usize,
     left: usize,
     at: usize,
-    w: Walk,
+    w: Progress,
     index: &mut [usize],
-) -> Walk
+) -> Progress
     ensures { λ r. ⌜ seen r (now (index .exit)) ≡ onTable (now (image .entry)) sheet (capacity (now (index .entry))) left at (seen w (now (index .entry))) ⌝ }
     ensures { λ r. ⌜ StaysClean (w .fields) (now (index .entry)) (r .fields) (now (index .exit)) ⌝ }
 {
@@ -314,11 +320,11 @@ fn has_pair(image: &[u8], at: usize, low: u8, high: u8) -> bool
 
 // The refusal number of an image for a sheet of so many bytes, 0 for none, and the fields that were reached, with zeros after them.
 pub fn check(image: &[u8], sheet: usize) -> Checked
-    ensures { λ r. ⌜ r .walk ≡ checked (now (image .entry)) sheet .walk ⌝ }
+    ensures { λ r. ⌜ r .progress ≡ checked (now (image .entry)) sheet .progress ⌝ }
     ensures { λ r. ⌜ r .index ≡ indexOf (checked (now (image .entry)) sheet .fields) ⌝ }
 {
     let mut index = [0usize; INDEX];
-    let start = Walk {
+    let start = Progress {
         refusal: 0,
         at: 0,
         lines: 0,
@@ -327,11 +333,11 @@ pub fn check(image: &[u8], sheet: usize) -> Checked
     let code = prolog_code(image);
     if code != 0 {
         return Checked {
-            walk: start.refused(code),
+            progress: start.refused(code),
             index,
         };
     }
-    let walk = check_table(
+    let progress = check_table(
         image,
         sheet,
         Image::MAX_DEPTH,
@@ -339,5 +345,5 @@ pub fn check(image: &[u8], sheet: usize) -> Checked
         start,
         &mut index,
     );
-    Checked { walk, index }
+    Checked { progress, index }
 }

@@ -8,7 +8,7 @@ use Rattle.laws.proofs.Cases.{via}
 use Rattle.laws.proofs.Rooms.{room-le}
 use Rattle.cmf.specs.Readers.{componentBy}
 use Rattle.cmf.proofs.Turning.{texts-inside}
-use Rattle.cmf.proofs.Usual.{fixed-short}
+use Rattle.cmf.proofs.Shortcuts.{fixed-short}
 use borrow.Author.Needs.{needs}
 use Rattle.cmf.proofs.component.component_by.Statement.{statement}
 use Rattle.cmf.proofs.component.component_by.Tie as tie

@@ -3,9 +3,9 @@ use mathlib.Core.Path.{_∙_}
 use Rattle.laws.specs.Choice.{if_then_else_}
 use borrow.Author.Tests.{lt-leb, ne-eqb}
 use Rattle.laws.proofs.Cases.{tests}
-use Rattle.field.specs.Table.{profileOf}
+use Rattle.field.specs.Profiles.{profileOf}
 use Rattle.cmf.specs.Readers.{kindAt, defaultPlace, sheetPlaceAt}
-use Rattle.cmf.proofs.Usual.{short-integer, long-integer, trigger-field}
+use Rattle.cmf.proofs.Shortcuts.{short-integer, long-integer, trigger-field}
 use borrow.Author.Needs.{needs}
 use Rattle.cmf.proofs.component.field_by.Statement.{statement}
 use Rattle.cmf.proofs.component.field_by.Tie as tie

@@ -6,7 +6,7 @@ use Rattle.laws.proofs.Cases.{via}
 use Rattle.laws.proofs.Rooms.{room-le}
 use Rattle.cmf.specs.Readers.{tagBit}
 use Rattle.cmf.proofs.Turning.{texts-inside}
-use Rattle.cmf.proofs.Usual.{fixed-short, texts-short, not-given, all-given, option-fixed, option-texts, option-edit}
+use Rattle.cmf.proofs.Shortcuts.{fixed-short, texts-short, not-given, all-given, option-fixed, option-texts, option-edit}
 use borrow.Author.Needs.{needs}
 use Rattle.cmf.proofs.component.option_by.Statement.{statement}
 use Rattle.cmf.proofs.component.option_by.Tie as tie

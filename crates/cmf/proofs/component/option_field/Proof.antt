@@ -1,7 +1,7 @@
 -- An option by its rows of the tables: one byte, behind its three settings.
 use Rattle.laws.specs.Choice.{if_then_else_}
 use Rattle.cmf.specs.Readers.{kindAt, sheetPlaceAt, defaultPlace}
-use Rattle.field.specs.Table.{profileOf}
+use Rattle.field.specs.Profiles.{profileOf}
 use borrow.Author.Needs.{needs}
 use Rattle.cmf.proofs.component.option_field.Statement.{statement}
 use Rattle.cmf.proofs.component.option_field.Tie as tie

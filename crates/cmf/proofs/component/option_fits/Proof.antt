@@ -1,5 +1,5 @@
 -- The default is one byte, and the items are counted from 0.
-use Rattle.cmf.proofs.Usual.{option-fits}
+use Rattle.cmf.proofs.Shortcuts.{option-fits}
 use borrow.Author.Needs.{needs}
 use Rattle.cmf.proofs.component.option_fits.Statement.{statement}
 use Rattle.cmf.proofs.component.option_fits.Tie as tie

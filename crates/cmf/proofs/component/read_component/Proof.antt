@@ -4,7 +4,7 @@ use native.Mathlib.Omega.{arith}
 use borrow.Author.Tests.{le-ltb}
 use Rattle.laws.specs.Choice.{if_then_else_}
 use Rattle.cmf.specs.Readers.{componentAt}
-use Rattle.cmf.proofs.Usual.{component-here}
+use Rattle.cmf.proofs.Shortcuts.{component-here}
 use borrow.Author.Needs.{needs}
 use Rattle.cmf.proofs.component.read_component.Statement.{statement}
 use Rattle.cmf.proofs.component.read_component.Tie as tie

@@ -6,7 +6,7 @@ use lib.ListN.{length}
 use Rattle.laws.proofs.Rooms.{le-room}
 use Rattle.cmf.specs.Readers.{tagBit}
 use Rattle.cmf.proofs.Turning.{texts-inside}
-use Rattle.cmf.proofs.Usual.{texts-short, all-given, string-texts, string-fixed, string-given, string-read}
+use Rattle.cmf.proofs.Shortcuts.{texts-short, all-given, string-texts, string-fixed, string-given, string-read}
 use borrow.Author.Needs.{needs}
 use Rattle.cmf.proofs.component.string_by.Statement.{statement}
 use Rattle.cmf.proofs.component.string_by.Tie as tie

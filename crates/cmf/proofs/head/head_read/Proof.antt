@@ -18,8 +18,8 @@ add-password c = search needs
 mul-protected : tie.Need-mul-protected
 mul-protected c = let t = c .before .before .before .args .tag in omega (arith, bits-le (t / 8 % 2) (t / 16 % 2) (omega arith) (omega arith))
 
-is-good-requires : tie.Need-is-good-requires
-is-good-requires c κs = search needs
+is-typeable-requires : tie.Need-is-typeable-requires
+is-typeable-requires c κs = search needs
 
 add-word-at : tie.Need-add-word-at
 add-word-at c = search needs
@@ -58,7 +58,7 @@ add-t25 : tie.Need-add-t25
 add-t25 c = search needs
 
 returns : tie.Need-returns
-returns c = let p = c .before .before .before .before .before .before .before .before .before .args .p in let tag = c .before .before .before .before .before .before .before .before .before .args .tag in let o = c .before .before .before .before .before .before .before .of-tag .result in let a : p + o .back ≡ backPlace p tag = omega (arith, c .before .before .before .before .before .before .before .of-tag .ensures .0) in let b : p + o .submenu ≡ submenuPlace p tag = omega (arith, c .before .before .before .before .before .before .before .of-tag .ensures .1 .0) in let d : p + o .end ≡ optionsEnd p tag = omega (arith, c .before .before .before .before .before .before .before .of-tag .ensures .1 .1) in simp (div-one, c .before .before .before .before .before .is-good .ensures, c .before .before .before .before .word-at .ensures, c .before .before .word-at2 .ensures, c .word-at3 .ensures, a, b, d)
+returns c = let p = c .before .before .before .before .before .before .before .before .before .args .p in let tag = c .before .before .before .before .before .before .before .before .before .args .tag in let o = c .before .before .before .before .before .before .before .of-tag .result in let a : p + o .back ≡ backPlace p tag = omega (arith, c .before .before .before .before .before .before .before .of-tag .ensures .0) in let b : p + o .submenu ≡ submenuPlace p tag = omega (arith, c .before .before .before .before .before .before .before .of-tag .ensures .1 .0) in let d : p + o .end ≡ optionsEnd p tag = omega (arith, c .before .before .before .before .before .before .before .of-tag .ensures .1 .1) in simp (div-one, c .before .before .before .before .before .is-typeable .ensures, c .before .before .before .before .word-at .ensures, c .before .before .word-at2 .ensures, c .word-at3 .ensures, a, b, d)
 
 pub head-read-spec : {M : Type 1} → statement M
 head-read-spec =
@@ -67,7 +67,7 @@ head-read-spec =
     of-tag-requires
     add-password
     mul-protected
-    is-good-requires
+    is-typeable-requires
     add-word-at
     word-at-requires
     cast-a

@@ -5,8 +5,8 @@ use borrow.Author.Needs.{needs}
 use Rattle.field.proofs.settings.settings_fit.Statement.{statement}
 use Rattle.field.proofs.settings.settings_fit.Tie as tie
 
-good-settings-requires : tie.Need-good-settings-requires
-good-settings-requires c κs = search needs
+kind-fits-requires : tie.Need-kind-fits-requires
+kind-fits-requires c κs = search needs
 
 number-requires : tie.Need-number-requires
 number-requires c κs = search needs
@@ -16,12 +16,12 @@ in-range-requires c κs = search needs
 
 returns : tie.Need-returns
 unfolding settingsFit _and_
-returns c = simp (c .in-range .ensures, c .before .number .ensures, ← c .before .before .before .good-settings .ensures, c .before .before .if1 .taken)
+returns c = simp (c .in-range .ensures, c .before .number .ensures, ← c .before .before .before .kind-fits .ensures, c .before .before .if1 .taken)
 
 returns-2 : tie.Need-returns-2
 unfolding settingsFit _and_
-returns-2 c = simp (← c .before .good-settings .ensures, c .if1 .left)
+returns-2 c = simp (← c .before .kind-fits .ensures, c .if1 .left)
 
 pub settings-fit-spec : {M : Type 1} → statement M
 settings-fit-spec =
-    tie.close (tie.spec good-settings-requires number-requires in-range-requires returns returns-2)
+    tie.close (tie.spec kind-fits-requires number-requires in-range-requires returns returns-2)

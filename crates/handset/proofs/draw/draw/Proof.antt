@@ -1,7 +1,7 @@
 -- A refusal, or the picture and the cursor: the cases of the call.
 use lib.ListN.{length}
 use mathlib.Core.Path.{sym, _∙_}
-use Rattle.picture.specs.Cursor.{told}
+use Rattle.picture.specs.Cursor.{cursorPlace}
 use Rattle.handset.proofs.Drawing.{refusal-from, refused-cursor, refused-picture, drawn-cursor, drawn-filled}
 use Rattle.handset.proofs.Ordering.{session-from}
 use borrow.Author.Needs.{needs}
@@ -18,7 +18,7 @@ draw-refusal-requires : tie.Need-draw-refusal-requires
 draw-refusal-requires c κs = search needs
 
 returns : tie.Need-returns
-unfolding told
+unfolding cursorPlace
 returns c = let k = refusal-from (c .before .before .before .before .before .before .before .args .image .now) (length (c .before .before .before .before .before .before .before .args .sheet .now)) (c .before .before .before .before .before .before .before .args .session) (length (c .before .before .before .before .before .before .before .args .picture .now)) _ _ (session-from _ _ _ _ _ (c .before .before .before .refusal-of .ensures) (c .before .before .session-refusal .ensures)) (c .before .draw-refusal .ensures) in (k, (refused-cursor (c .before .before .before .before .before .before .before .args .image .now) (c .before .before .before .before .before .before .before .args .sheet .now) (c .before .before .before .before .before .before .before .args .session) (c .before .before .before .before .before .before .before .args .picture .now) _ k (c .if1 .taken), refused-picture (c .before .before .before .before .before .before .before .args .image .now) (c .before .before .before .before .before .before .before .args .sheet .now) (c .before .before .before .before .before .before .before .args .session) (c .before .before .before .before .before .before .before .args .picture .now) _ k (c .if1 .taken)))
 
 put-picture-requires : tie.Need-put-picture-requires

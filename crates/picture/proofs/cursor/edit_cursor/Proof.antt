@@ -1,5 +1,5 @@
 -- Each mode has its case.
-use Rattle.picture.specs.Cursor.{told, cursorIn}
+use Rattle.picture.specs.Cursor.{cursorPlace, cursorIn}
 use borrow.Author.Needs.{needs}
 use Rattle.picture.proofs.cursor.edit_cursor.Statement.{statement}
 use Rattle.picture.proofs.cursor.edit_cursor.Tie as tie
@@ -32,15 +32,15 @@ enum-told-2 : tie.Need-enum-told-2
 enum-told-2 c = search needs
 
 returns : tie.Need-returns
-unfolding told cursorIn
+unfolding cursorPlace cursorIn
 returns c = simp (c .enum-told .given .1)
 
 returns-2 : tie.Need-returns-2
-unfolding told cursorIn
+unfolding cursorPlace cursorIn
 returns-2 c = simp (c .before .before .before .before .before .mode .given .1, c .data-cell .ensures .0, c .before .less .ensures)
 
 returns-3 : tie.Need-returns-3
-unfolding told cursorIn
+unfolding cursorPlace cursorIn
 returns-3 c = simp (c .enum-told2 .given .1)
 
 pub edit-cursor-spec : {M : Type 1} → statement M

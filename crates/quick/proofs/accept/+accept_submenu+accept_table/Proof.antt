@@ -4,9 +4,9 @@ use lib.ListN.{length}
 use borrow.Author.Needs.{needs}
 use borrow.Author.Tests.{not-true, not-false}
 use Rattle.quick.specs.Accept.{AmongLines}
-use Rattle.acceptance.proofs.Stood.{clash}
+use Rattle.acceptance.proofs.CameTo.{clash}
 use Rattle.quick.proofs.AcceptingTables.{going-start, table-reaches}
-use Rattle.quick.proofs.Spots.{head-fits, along-head, leaves-plain, leaves-deep, lines-more, lines-last}
+use Rattle.quick.proofs.Positions.{head-fits, along-head, leaves-plain, leaves-deep, lines-more, lines-last}
 use native.Mathlib.Omega.{arith}
 use Prim.Native.Nat.{ℕ, suc, _+_, _-_, _<_, _≤_}
 use borrow.Fn.Kinds.{In}
@@ -22,9 +22,9 @@ use Rattle.quick.proofs.accept.pass_lines.Reads as pass-lines-reads
 use Rattle.quick.proofs.heads.accept_head.Reads as accept-head-reads
 use Rattle.quick.proofs.heads.next_of.Reads as next-of-reads
 use Rattle.quick.proofs.heads.submenu_of.Reads as submenu-of-reads
-use Rattle.quick.proofs.spot.Spot.headed.Reads as headed-reads
-use Rattle.quick.proofs.stage.Stage.doubt.Reads as doubt-reads
-use Rattle.quick.proofs.stage.Stage.titled.Reads as titled-reads
+use Rattle.quick.proofs.position.Position.headed.Reads as headed-reads
+use Rattle.quick.proofs.tally.Tally.doubt.Reads as doubt-reads
+use Rattle.quick.proofs.tally.Tally.titled.Reads as titled-reads
 use Rattle.quick.proofs.accept.+accept_submenu+accept_table.{statement}
 use Rattle.quick.proofs.accept.+accept_submenu+accept_table.Tie.{close}
 

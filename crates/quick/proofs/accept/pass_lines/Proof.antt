@@ -6,8 +6,8 @@ use lib.ListN.{length}
 use borrow.Author.Needs.{needs}
 use borrow.Author.Tests.{not-true, not-false}
 use Rattle.quick.specs.Accept.{Moves}
-use Rattle.acceptance.proofs.Stood.{clash}
-use Rattle.quick.proofs.Spots.{moves-none, moves-then}
+use Rattle.acceptance.proofs.CameTo.{clash}
+use Rattle.quick.proofs.Positions.{moves-none, moves-then}
 use native.Mathlib.Omega.{arith}
 use Rattle.quick.proofs.accept.pass_lines.Statement.{statement}
 use Rattle.quick.proofs.accept.pass_lines.Tie as tie
@@ -16,7 +16,7 @@ abbrev Inv-loop : tie.InvT-loop
 Inv-loop image sheet marks₀ s₀ marks s = ((Moves image sheet s₀ s marks₀ marks) × (s .done ≡ false)) × (length marks ≡ length marks₀)
 
 abbrev μ-loop : tie.MeasureT-loop
-μ-loop image sheet marks₀ s₀ marks s = length image - s .stage .at
+μ-loop image sheet marks₀ s₀ marks s = length image - s .tally .at
 
 loop-holds : tie.Need-loop-holds Inv-loop μ-loop
 loop-holds c = ((moves-none _ _ _ _ (c .before .before .pre .head) (c .before .before .pre .inside), c .before .before .pre .going), refl)

@@ -1,7 +1,7 @@
 -- Without doubt nothing is refused; in doubt the check proper answers.
 use mathlib.Core.Path.{sym, ap}
 use Rattle.acceptance.specs.Check.{refusalOf}
-use Rattle.acceptance.specs.declared.state.Walk.{Walk}
+use Rattle.acceptance.specs.declared.progress.Progress.{Progress}
 use borrow.Author.Needs.{needs}
 use Rattle.quick.proofs.accept.refusal_of.Statement.{statement}
 use Rattle.quick.proofs.accept.refusal_of.Tie as tie
@@ -17,7 +17,7 @@ check-requires c κs = search needs
 
 returns-2 : tie.Need-returns-2
 unfolding refusalOf
-returns-2 c = ap (λ (w : Walk). w .refusal) (c .check .ensures .0)
+returns-2 c = ap (λ (w : Progress). w .refusal) (c .check .ensures .0)
 
 pub refusal-of-spec : {M : Type 1} → statement M
 refusal-of-spec = tie.close (tie.spec is-accepted-requires returns check-requires returns-2)

@@ -1,7 +1,7 @@
 -- A component more, and the line is done where it was the last.
 use borrow.Author.Tests.{eqb-true}
-use Rattle.acceptance.proofs.Stood.{clash}
-use Rattle.quick.proofs.Spots.{unmarked, part-moves, part-onward}
+use Rattle.acceptance.proofs.CameTo.{clash}
+use Rattle.quick.proofs.Positions.{unmarked, part-moves, part-onward}
 use borrow.Author.Needs.{needs}
 use Rattle.quick.proofs.accept.take_other.Statement.{statement}
 use Rattle.quick.proofs.accept.take_other.Tie as tie

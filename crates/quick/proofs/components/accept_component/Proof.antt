@@ -4,7 +4,7 @@ use mathlib.Core.List.{[]}
 use borrow.Author.Tests.{not-false, ltb-true}
 use Rattle.laws.proofs.Cases.{via}
 use Rattle.quick.specs.Accept.{Claims}
-use Rattle.acceptance.proofs.Stood.{clash}
+use Rattle.acceptance.proofs.CameTo.{clash}
 use Rattle.quick.proofs.Accepting.{even-place}
 use borrow.Author.Needs.{needs}
 use Rattle.quick.proofs.components.accept_component.Statement.{statement}

@@ -1,7 +1,7 @@
 -- A field more, if there may be one: one of the grammar whose bytes are claimed, or a trigger.
 use borrow.Author.Tests.{ltb-true}
 use Rattle.quick.proofs.FixedFields.{trigger-passes, fixed-passes}
-use Rattle.acceptance.proofs.Stood.{clash}
+use Rattle.acceptance.proofs.CameTo.{clash}
 use native.Mathlib.Omega.{arith}
 use borrow.Author.Needs.{needs}
 use Rattle.quick.proofs.fixed.accept_field.Statement.{statement}

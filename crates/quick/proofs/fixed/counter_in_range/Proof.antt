@@ -1,6 +1,6 @@
 -- A counter is in range by its one cell.
 use Rattle.laws.specs.Choice.{_and_}
-use Rattle.field.specs.Table.{cellOf}
+use Rattle.field.specs.Profiles.{cellOf}
 use Rattle.field.specs.Cells.{within}
 use Rattle.field.proofs.Ranges.{range-of-counter}
 use borrow.Author.Tests.{le-leb, lt-leb}

@@ -1,9 +1,9 @@
 -- Each code leads to its row of the grammar, with its bytes in the sheet.
 use mathlib.Core.Path.{refl}
 use Rattle.quick.proofs.FixedFields.{held}
-use Rattle.cmf.proofs.Usual.{short-bytes, long-bytes}
+use Rattle.cmf.proofs.Shortcuts.{short-bytes, long-bytes}
 use Rattle.laws.specs.Choice.{if_then_else_}
-use Rattle.field.specs.Table.{profileOf}
+use Rattle.field.specs.Profiles.{profileOf}
 use native.Mathlib.Omega.{arith}
 use borrow.Author.Needs.{needs}
 use Rattle.quick.proofs.fixed.extent_of.Statement.{statement}

@@ -5,8 +5,8 @@ use mathlib.Core.Bool.{true, false}
 use lib.ListN.{length}
 use borrow.Author.Tests.{not-true, not-false}
 use Rattle.quick.specs.Accept.{Moves}
-use Rattle.acceptance.proofs.Stood.{clash}
-use Rattle.quick.proofs.Spots.{moves-none, moves-then, part-moves, part-onward, next-moves}
+use Rattle.acceptance.proofs.CameTo.{clash}
+use Rattle.quick.proofs.Positions.{moves-none, moves-then, part-moves, part-onward, next-moves}
 use native.Mathlib.Omega.{arith}
 use Rattle.quick.proofs.run.run.Statement.{statement}
 use Rattle.quick.proofs.run.run.Tie as tie
@@ -15,7 +15,7 @@ abbrev Inv-loop : tie.InvT-loop
 Inv-loop image sheet marks₀ s₀ marks s = ((Moves image sheet s₀ s marks₀ marks) × (s .done ≡ false)) × (length marks ≡ length marks₀)
 
 abbrev μ-loop : tie.MeasureT-loop
-μ-loop image sheet marks₀ s₀ marks s = length image - s .stage .at
+μ-loop image sheet marks₀ s₀ marks s = length image - s .tally .at
 
 loop-holds : tie.Need-loop-holds Inv-loop μ-loop
 loop-holds c = ((moves-none _ _ _ _ (c .before .before .pre .head) (c .before .before .pre .inside), c .before .before .pre .going), refl)
@@ -38,35 +38,35 @@ add-p c = omega arith
 shared-slice-read-tag : tie.Need-shared-slice-read-tag Inv-loop μ-loop
 shared-slice-read-tag c = omega arith
 
-take-usual-requires : tie.Need-take-usual-requires Inv-loop μ-loop
-take-usual-requires c κs = (omega arith, refl, omega (arith, c .before .before .before .before .before .before .loop .inv .1, c .before .before .before .before .before .before .before .before .before .pre .marked))
+take-plain-requires : tie.Need-take-plain-requires Inv-loop μ-loop
+take-plain-requires c κs = (omega arith, refl, omega (arith, c .before .before .before .before .before .before .loop .inv .1, c .before .before .before .before .before .before .before .before .before .pre .marked))
 
 same-length-2 : tie.Need-same-length-2 Inv-loop μ-loop
-same-length-2 c = c .before .before .before .before .take-usual .kept .1 .1 .1 .1 .1 .0 ∙ c .before .before .before .before .before .before .before .before .before .before .before .loop .inv .1
+same-length-2 c = c .before .before .before .before .take-plain .kept .1 .1 .1 .1 .1 .0 ∙ c .before .before .before .before .before .before .before .before .before .before .before .loop .inv .1
 
 returns-2 : tie.Need-returns-2 Inv-loop μ-loop
-returns-2 c = rw (c .before .before .before .before .take-usual .ensures .1 (not-true _ (c .if3 .taken))) (c .before .before .before .before .before .before .before .before .before .before .before .loop .inv .0 .0)
+returns-2 c = rw (c .before .before .before .before .take-plain .ensures .1 (not-true _ (c .if3 .taken))) (c .before .before .before .before .before .before .before .before .before .before .before .loop .inv .0 .0)
 
-next-usual-requires : tie.Need-next-usual-requires Inv-loop μ-loop
-next-usual-requires c κs = c .before .before .before .before .before .before .before .before .before .before .before .before .loop .inv .0 .0 .inside
+next-plain-requires : tie.Need-next-plain-requires Inv-loop μ-loop
+next-plain-requires c κs = c .before .before .before .before .before .before .before .before .before .before .before .before .loop .inv .0 .0 .inside
 
 same-length-3 : tie.Need-same-length-3 Inv-loop μ-loop
-same-length-3 c = c .before .before .before .before .before .before .before .take-usual .kept .1 .1 .1 .1 .1 .0 ∙ c .before .before .before .before .before .before .before .before .before .before .before .before .before .before .loop .inv .1
+same-length-3 c = c .before .before .before .before .before .before .before .take-plain .kept .1 .1 .1 .1 .1 .0 ∙ c .before .before .before .before .before .before .before .before .before .before .before .before .before .before .loop .inv .1
 
 returns-3 : tie.Need-returns-3 Inv-loop μ-loop
-returns-3 c = rw (c .before .next-usual .ensures .1 (c .if5 .taken)) (moves-then _ _ (c .before .before .before .before .before .before .before .before .before .before .before .before .before .before .loop .inv .0 .0) (part-moves _ _ _ (c .before .before .before .before .before .before .before .before .before .before .before .before .before .before .loop .inv .0 .1) (c .before .before .before .before .before .before .before .before .before .before .before .before .before .before .loop .inv .0 .0 .inside) (c .before .before .before .before .before .before .before .before .before .before .before .is-padded-to-even .ensures (not-false _ (c .before .before .before .before .before .before .before .before .before .before .if2 .left))) (c .before .before .before .before .before .before .before .take-usual .ensures .0 (not-false _ (c .before .before .before .if3 .left))) true (λ e. clash refl e) (λ _. c .before .before .if4 .taken)))
+returns-3 c = rw (c .before .next-plain .ensures .1 (c .if5 .taken)) (moves-then _ _ (c .before .before .before .before .before .before .before .before .before .before .before .before .before .before .loop .inv .0 .0) (part-moves _ _ _ (c .before .before .before .before .before .before .before .before .before .before .before .before .before .before .loop .inv .0 .1) (c .before .before .before .before .before .before .before .before .before .before .before .before .before .before .loop .inv .0 .0 .inside) (c .before .before .before .before .before .before .before .before .before .before .before .is-padded-to-even .ensures (not-false _ (c .before .before .before .before .before .before .before .before .before .before .if2 .left))) (c .before .before .before .before .before .before .before .take-plain .ensures .0 (not-false _ (c .before .before .before .if3 .left))) true (λ e. clash refl e) (λ _. c .before .before .if4 .taken)))
 
 loop-less : tie.Need-loop-less Inv-loop μ-loop
-loop-less c = omega (arith, part-onward _ _ (c .before .before .before .before .before .before .before .before .before .before .before .before .before .before .loop .s) (c .before .before .before .before .before .before .before .before .before .before .before .before .before .before .loop .inv .0 .1) (c .before .before .before .before .before .before .before .before .before .before .before .before .before .before .loop .inv .0 .0 .inside) (c .before .before .before .before .before .before .before .before .before .before .before .is-padded-to-even .ensures (not-false _ (c .before .before .before .before .before .before .before .before .before .before .if2 .left))) (c .before .before .before .before .before .before .before .take-usual .ensures .0 (not-false _ (c .before .before .before .if3 .left))), next-moves _ (c .before .before .before .before .before .before .before .before .before .before .before .before .before .before .before .before .before .args .sheet) (c .before .before .before .before .before .before .before .before .before .before .before .before .before .before .loop .marks) (c .if5 .left) (c .before .next-usual .ensures .0 (c .if5 .left)) .onward)
+loop-less c = omega (arith, part-onward _ _ (c .before .before .before .before .before .before .before .before .before .before .before .before .before .before .loop .s) (c .before .before .before .before .before .before .before .before .before .before .before .before .before .before .loop .inv .0 .1) (c .before .before .before .before .before .before .before .before .before .before .before .before .before .before .loop .inv .0 .0 .inside) (c .before .before .before .before .before .before .before .before .before .before .before .is-padded-to-even .ensures (not-false _ (c .before .before .before .before .before .before .before .before .before .before .if2 .left))) (c .before .before .before .before .before .before .before .take-plain .ensures .0 (not-false _ (c .before .before .before .if3 .left))), next-moves _ (c .before .before .before .before .before .before .before .before .before .before .before .before .before .before .before .before .before .args .sheet) (c .before .before .before .before .before .before .before .before .before .before .before .before .before .before .loop .marks) (c .if5 .left) (c .before .next-plain .ensures .0 (c .if5 .left)) .onward)
 
 loop-again : tie.Need-loop-again Inv-loop μ-loop
-loop-again c = ((moves-then _ _ (moves-then _ _ (c .before .before .before .before .before .before .before .before .before .before .before .before .before .before .loop .inv .0 .0) (part-moves _ _ _ (c .before .before .before .before .before .before .before .before .before .before .before .before .before .before .loop .inv .0 .1) (c .before .before .before .before .before .before .before .before .before .before .before .before .before .before .loop .inv .0 .0 .inside) (c .before .before .before .before .before .before .before .before .before .before .before .is-padded-to-even .ensures (not-false _ (c .before .before .before .before .before .before .before .before .before .before .if2 .left))) (c .before .before .before .before .before .before .before .take-usual .ensures .0 (not-false _ (c .before .before .before .if3 .left))) true (λ e. clash refl e) (λ _. c .before .before .if4 .taken))) (next-moves _ _ _ (c .if5 .left) (c .before .next-usual .ensures .0 (c .if5 .left))), c .if5 .left), c .before .before .before .before .before .before .before .take-usual .kept .1 .1 .1 .1 .1 .0 ∙ c .before .before .before .before .before .before .before .before .before .before .before .before .before .before .loop .inv .1)
+loop-again c = ((moves-then _ _ (moves-then _ _ (c .before .before .before .before .before .before .before .before .before .before .before .before .before .before .loop .inv .0 .0) (part-moves _ _ _ (c .before .before .before .before .before .before .before .before .before .before .before .before .before .before .loop .inv .0 .1) (c .before .before .before .before .before .before .before .before .before .before .before .before .before .before .loop .inv .0 .0 .inside) (c .before .before .before .before .before .before .before .before .before .before .before .is-padded-to-even .ensures (not-false _ (c .before .before .before .before .before .before .before .before .before .before .if2 .left))) (c .before .before .before .before .before .before .before .take-plain .ensures .0 (not-false _ (c .before .before .before .if3 .left))) true (λ e. clash refl e) (λ _. c .before .before .if4 .taken))) (next-moves _ _ _ (c .if5 .left) (c .before .next-plain .ensures .0 (c .if5 .left))), c .if5 .left), c .before .before .before .before .before .before .before .take-plain .kept .1 .1 .1 .1 .1 .0 ∙ c .before .before .before .before .before .before .before .before .before .before .before .before .before .before .loop .inv .1)
 
 loop-less-2 : tie.Need-loop-less-2 Inv-loop μ-loop
-loop-less-2 c = omega (arith, part-onward _ _ (c .before .before .before .before .before .before .before .before .before .before .before .before .loop .s) (c .before .before .before .before .before .before .before .before .before .before .before .before .loop .inv .0 .1) (c .before .before .before .before .before .before .before .before .before .before .before .before .loop .inv .0 .0 .inside) (c .before .before .before .before .before .before .before .before .before .is-padded-to-even .ensures (not-false _ (c .before .before .before .before .before .before .before .before .if2 .left))) (c .before .before .before .before .before .take-usual .ensures .0 (not-false _ (c .before .if3 .left))))
+loop-less-2 c = omega (arith, part-onward _ _ (c .before .before .before .before .before .before .before .before .before .before .before .before .loop .s) (c .before .before .before .before .before .before .before .before .before .before .before .before .loop .inv .0 .1) (c .before .before .before .before .before .before .before .before .before .before .before .before .loop .inv .0 .0 .inside) (c .before .before .before .before .before .before .before .before .before .is-padded-to-even .ensures (not-false _ (c .before .before .before .before .before .before .before .before .if2 .left))) (c .before .before .before .before .before .take-plain .ensures .0 (not-false _ (c .before .if3 .left))))
 
 loop-again-2 : tie.Need-loop-again-2 Inv-loop μ-loop
-loop-again-2 c = ((moves-then _ _ (c .before .before .before .before .before .before .before .before .before .before .before .before .loop .inv .0 .0) (part-moves _ _ _ (c .before .before .before .before .before .before .before .before .before .before .before .before .loop .inv .0 .1) (c .before .before .before .before .before .before .before .before .before .before .before .before .loop .inv .0 .0 .inside) (c .before .before .before .before .before .before .before .before .before .is-padded-to-even .ensures (not-false _ (c .before .before .before .before .before .before .before .before .if2 .left))) (c .before .before .before .before .before .take-usual .ensures .0 (not-false _ (c .before .if3 .left))) _ (λ _. omega (arith, c .if4 .left)) (λ e. clash e (c .before .before .before .before .before .before .before .before .before .before .before .before .loop .inv .0 .1))), c .before .before .before .before .before .before .before .before .before .before .before .before .loop .inv .0 .1), c .before .before .before .before .before .take-usual .kept .1 .1 .1 .1 .1 .0 ∙ c .before .before .before .before .before .before .before .before .before .before .before .before .loop .inv .1)
+loop-again-2 c = ((moves-then _ _ (c .before .before .before .before .before .before .before .before .before .before .before .before .loop .inv .0 .0) (part-moves _ _ _ (c .before .before .before .before .before .before .before .before .before .before .before .before .loop .inv .0 .1) (c .before .before .before .before .before .before .before .before .before .before .before .before .loop .inv .0 .0 .inside) (c .before .before .before .before .before .before .before .before .before .is-padded-to-even .ensures (not-false _ (c .before .before .before .before .before .before .before .before .if2 .left))) (c .before .before .before .before .before .take-plain .ensures .0 (not-false _ (c .before .if3 .left))) _ (λ _. omega (arith, c .if4 .left)) (λ e. clash e (c .before .before .before .before .before .before .before .before .before .before .before .before .loop .inv .0 .1))), c .before .before .before .before .before .before .before .before .before .before .before .before .loop .inv .0 .1), c .before .before .before .before .before .take-plain .kept .1 .1 .1 .1 .1 .0 ∙ c .before .before .before .before .before .before .before .before .before .before .before .before .loop .inv .1)
 
 same-length-4 : tie.Need-same-length-4 Inv-loop μ-loop
 same-length-4 c = c .before .before .loop .inv .1
@@ -87,10 +87,10 @@ run-spec =
     returns
     add-p
     shared-slice-read-tag
-    take-usual-requires
+    take-plain-requires
     same-length-2
     returns-2
-    next-usual-requires
+    next-plain-requires
     same-length-3
     returns-3
     loop-less

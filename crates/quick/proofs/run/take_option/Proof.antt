@@ -1,6 +1,6 @@
 -- An option without fault, and its byte is marked.
 use mathlib.Core.Path.{refl}
-use Rattle.acceptance.proofs.Stood.{clash}
+use Rattle.acceptance.proofs.CameTo.{clash}
 use Rattle.quick.proofs.Accepting.{option-passes}
 use native.Mathlib.Omega.{arith}
 use borrow.Author.Needs.{needs}

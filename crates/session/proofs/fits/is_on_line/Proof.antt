@@ -1,7 +1,7 @@
 -- Each return is the case of the definition that the tests on its path choose.
 use native.Mathlib.Omega.{arith}
 use mathlib.Core.Path.{_≡_, refl, sym, _∙_}
-use Rattle.session.specs.Fits.{among}
+use Rattle.session.specs.Fits.{isIn}
 use Rattle.cmf.specs.Places.{componentsFrom, componentsOf}
 use Rattle.session.proofs.Stepping.{among-here, among-last, among-next, among-done}
 use borrow.Author.Needs.{needs}
@@ -9,7 +9,7 @@ use Rattle.session.proofs.fits.is_on_line.Statement.{statement}
 use Rattle.session.proofs.fits.is_on_line.Tie as tie
 
 abbrev Inv-loop : tie.InvT-loop
-Inv-loop image line place c₀ left₀ c left = among place (componentsFrom image left c) ≡ among place (componentsFrom image left₀ c₀)
+Inv-loop image line place c₀ left₀ c left = isIn place (componentsFrom image left c) ≡ isIn place (componentsFrom image left₀ c₀)
 
 abbrev μ-loop : tie.MeasureT-loop
 μ-loop image line place c₀ left₀ c left = left

@@ -7,8 +7,8 @@ use Rattle.texts.proofs.text.put_counter.Tie as tie
 sub-size : tie.Need-sub-size
 sub-size c = search needs
 
-places-requires : tie.Need-places-requires
-places-requires c κs = search needs
+digit-count-requires : tie.Need-digit-count-requires
+digit-count-requires c κs = search needs
 
 cast-less : tie.Need-cast-less
 cast-less c = search needs
@@ -32,10 +32,10 @@ same-length : tie.Need-same-length
 same-length c = search needs
 
 returns : tie.Need-returns
-returns c = count-below _ _ _ _ (c .before .before .before .before .before .before .before .before .before .before .before .before .before .before .if1 .taken) (c .before .before .before .before .before .before .before .before .before .before .before .before .before .places .ensures .0) (c .before .before .before .before .before .before .before .before .before .before .before .less .ensures) (c .before .before .before .before .before .before .before .before .before .before .repeat .ensures) (c .before .before .before .before .before .before .put .ensures) (c .before .before .put-decimal .ensures)
+returns c = count-below _ _ _ _ (c .before .before .before .before .before .before .before .before .before .before .before .before .before .before .if1 .taken) (c .before .before .before .before .before .before .before .before .before .before .before .before .before .digit-count .ensures .0) (c .before .before .before .before .before .before .before .before .before .before .before .less .ensures) (c .before .before .before .before .before .before .before .before .before .before .repeat .ensures) (c .before .before .before .before .before .before .put .ensures) (c .before .before .put-decimal .ensures)
 
-places-requires-2 : tie.Need-places-requires-2
-places-requires-2 c κs = search needs
+digit-count-requires-2 : tie.Need-digit-count-requires-2
+digit-count-requires-2 c κs = search needs
 
 cast-less-2 : tie.Need-cast-less-2
 cast-less-2 c = search needs
@@ -53,14 +53,14 @@ same-length-2 : tie.Need-same-length-2
 same-length-2 c = search needs
 
 returns-2 : tie.Need-returns-2
-returns-2 c = count-above _ _ _ _ (c .before .before .before .before .before .before .before .before .before .before .if1 .left) (c .before .before .before .before .before .before .before .before .before .places2 .ensures .0) (c .before .before .before .before .before .before .before .less2 .ensures) (c .before .before .before .before .before .before .repeat2 .ensures) (c .before .before .put-decimal2 .ensures)
+returns-2 c = count-above _ _ _ _ (c .before .before .before .before .before .before .before .before .before .before .if1 .left) (c .before .before .before .before .before .before .before .before .before .digit-count2 .ensures .0) (c .before .before .before .before .before .before .before .less2 .ensures) (c .before .before .before .before .before .before .repeat2 .ensures) (c .before .before .put-decimal2 .ensures)
 
 pub put-counter-spec : {M : Type 1} → statement M
 put-counter-spec =
     tie.close
     (tie.spec
     sub-size
-    places-requires
+    digit-count-requires
     cast-less
     add-less
     less-requires
@@ -69,7 +69,7 @@ put-counter-spec =
     put-decimal-requires
     same-length
     returns
-    places-requires-2
+    digit-count-requires-2
     cast-less-2
     less-requires-2
     repeat-requires-2

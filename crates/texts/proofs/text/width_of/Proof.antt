@@ -1,6 +1,6 @@
 -- Each kind has its case.
 use Rattle.laws.specs.Choice.{if_then_else_}
-use Rattle.field.specs.Table.{profileOf}
+use Rattle.field.specs.Profiles.{profileOf}
 use Rattle.texts.specs.Texts.{widthOf}
 use borrow.Author.Needs.{needs}
 use Rattle.texts.proofs.text.width_of.Statement.{statement}

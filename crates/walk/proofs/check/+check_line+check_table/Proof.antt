@@ -4,8 +4,8 @@ use Rattle.cmf.proofs.title.read_title.Reads as read-title-reads
 use Rattle.walk.proofs.check.take_line.Reads as take-line-reads
 use Rattle.walk.proofs.check.take_title.Reads as take-title-reads
 use Rattle.walk.proofs.check.check_components.Reads as check-components-reads
-use Rattle.acceptance.proofs.state.Walk.behind.Reads as behind-reads
-use Rattle.acceptance.proofs.state.Walk.refused.Reads as refused-reads
+use Rattle.acceptance.proofs.progress.Progress.past_line.Reads as past-line-reads
+use Rattle.acceptance.proofs.progress.Progress.refused.Reads as refused-reads
 use native.Mathlib.Omega.{arith}
 use Prim.Native.Nat.{ℕ, _+_, _-_, _/_, _<_}
 use mathlib.Core.Path.{_≡_, refl, sym, ap, _∙_}
@@ -60,8 +60,8 @@ check-line-read-head-requires : (t : ℕ) → check-line-lts.Need-read-head-requ
   check-components-reads.Learnt,
   check-table-below t,
   check-table.Post,
-  behind-reads.Asked,
-  behind-reads.Learnt,
+  past-line-reads.Asked,
+  past-line-reads.Learnt,
 ) (check-line-at t) check-line.Post
 check-line-read-head-requires t c κs = search needs
 
@@ -74,8 +74,8 @@ check-line-take-line-requires : (t : ℕ) → check-line-lts.Need-take-line-requ
   check-components-reads.Learnt,
   check-table-below t,
   check-table.Post,
-  behind-reads.Asked,
-  behind-reads.Learnt,
+  past-line-reads.Asked,
+  past-line-reads.Learnt,
 ) (check-line-at t) check-line.Post
 check-line-take-line-requires t c κs = search needs
 
@@ -88,8 +88,8 @@ check-line-returns : (t : ℕ) → check-line-lts.Need-returns (
   check-components-reads.Learnt,
   check-table-below t,
   check-table.Post,
-  behind-reads.Asked,
-  behind-reads.Learnt,
+  past-line-reads.Asked,
+  past-line-reads.Learnt,
 ) (check-line-at t) check-line.Post
 check-line-returns t c = (line-stop _ _ _ _ _ _ _ _ _ _ _ (c .before .before .before .read-head .ensures) (c .before .before .take-line .ensures) (c .if1 .taken), λ h. clean-head _ _ _ _ _ _ _ (c .before .before .take-line .ensures) h)
 
@@ -102,8 +102,8 @@ check-line-check-components-requires : (t : ℕ) → check-line-lts.Need-check-c
   check-components-reads.Learnt,
   check-table-below t,
   check-table.Post,
-  behind-reads.Asked,
-  behind-reads.Learnt,
+  past-line-reads.Asked,
+  past-line-reads.Learnt,
 ) (check-line-at t) check-line.Post
 check-line-check-components-requires t c κs = search needs
 
@@ -116,8 +116,8 @@ check-line-same-length : (t : ℕ) → check-line-lts.Need-same-length (
   check-components-reads.Learnt,
   check-table-below t,
   check-table.Post,
-  behind-reads.Asked,
-  behind-reads.Learnt,
+  past-line-reads.Asked,
+  past-line-reads.Learnt,
 ) (check-line-at t) check-line.Post
 check-line-same-length t c = c .before .before .before .before .check-components .kept .1 .1 .1 .1 .0
 
@@ -130,8 +130,8 @@ check-line-returns-2 : (t : ℕ) → check-line-lts.Need-returns-2 (
   check-components-reads.Learnt,
   check-table-below t,
   check-table.Post,
-  behind-reads.Asked,
-  behind-reads.Learnt,
+  past-line-reads.Asked,
+  past-line-reads.Learnt,
 ) (check-line-at t) check-line.Post
 check-line-returns-2 t c = (line-bad _ _ _ _ _ _ _ _ _ _ _ (c .before .before .before .before .before .before .before .before .before .read-head .ensures) (c .before .before .before .before .before .before .before .before .take-line .ensures) (c .before .before .before .before .before .before .if1 .left) _ (c .before .before .before .before .check-components .ensures .0) (c .if2 .taken), λ h. c .before .before .before .before .check-components .ensures .1 (clean-head _ _ _ _ _ _ _ (c .before .before .before .before .before .before .before .before .take-line .ensures) h))
 
@@ -144,12 +144,12 @@ check-line-check-table-requires : (t : ℕ) → check-line-lts.Need-check-table-
   check-components-reads.Learnt,
   check-table-below t,
   check-table.Post,
-  behind-reads.Asked,
-  behind-reads.Learnt,
+  past-line-reads.Asked,
+  past-line-reads.Learnt,
 ) (check-line-at t) check-line.Post
 check-line-check-table-requires t c κs = (omega (arith, c .before .before .before .before .before .before .before .before .before .before .before .before .before .before .pre .0), tt)
 
-check-line-behind-requires : (t : ℕ) → check-line-lts.Need-behind-requires (
+check-line-past-line-requires : (t : ℕ) → check-line-lts.Need-past-line-requires (
   read-head-reads.Asked,
   read-head-reads.Learnt,
   take-line-reads.Asked,
@@ -158,10 +158,10 @@ check-line-behind-requires : (t : ℕ) → check-line-lts.Need-behind-requires (
   check-components-reads.Learnt,
   check-table-below t,
   check-table.Post,
-  behind-reads.Asked,
-  behind-reads.Learnt,
+  past-line-reads.Asked,
+  past-line-reads.Learnt,
 ) (check-line-at t) check-line.Post
-check-line-behind-requires t c κs = search needs
+check-line-past-line-requires t c κs = search needs
 
 check-line-same-length-2 : (t : ℕ) → check-line-lts.Need-same-length-2 (
   read-head-reads.Asked,
@@ -172,8 +172,8 @@ check-line-same-length-2 : (t : ℕ) → check-line-lts.Need-same-length-2 (
   check-components-reads.Learnt,
   check-table-below t,
   check-table.Post,
-  behind-reads.Asked,
-  behind-reads.Learnt,
+  past-line-reads.Asked,
+  past-line-reads.Learnt,
 ) (check-line-at t) check-line.Post
 check-line-same-length-2 t c = c .before .before .before .check-table .kept .1 .1 .1 .1 .1 .0 ∙ c .before .before .before .before .before .before .before .before .before .before .check-components .kept .1 .1 .1 .1 .0
 
@@ -186,10 +186,10 @@ check-line-returns-3 : (t : ℕ) → check-line-lts.Need-returns-3 (
   check-components-reads.Learnt,
   check-table-below t,
   check-table.Post,
-  behind-reads.Asked,
-  behind-reads.Learnt,
+  past-line-reads.Asked,
+  past-line-reads.Learnt,
 ) (check-line-at t) check-line.Post
-check-line-returns-3 t c = (line-deep _ _ _ _ _ _ _ _ _ _ _ (c .before .before .before .before .before .before .before .before .before .before .before .before .before .before .before .read-head .ensures) (c .before .before .before .before .before .before .before .before .before .before .before .before .before .before .take-line .ensures) (c .before .before .before .before .before .before .before .before .before .before .before .before .if1 .left) _ (c .before .before .before .before .before .before .before .before .before .before .check-components .ensures .0) _ _ _ _ (ap (λ (n : ℕ). n / 3) (c .before .before .before .before .before .before .before .before .before .before .check-components .kept .1 .1 .1 .1 .0)) (c .before .before .before .before .before .before .if2 .left) (c .before .before .before .before .before .if3 .taken) (c .before .before .before .check-table .ensures .0) (c .behind .ensures), λ h. rw (c .behind .ensures) (c .before .before .before .check-table .ensures .1 (c .before .before .before .before .before .before .before .before .before .before .check-components .ensures .1 (clean-head _ _ _ _ _ _ _ (c .before .before .before .before .before .before .before .before .before .before .before .before .before .before .take-line .ensures) h))))
+check-line-returns-3 t c = (line-deep _ _ _ _ _ _ _ _ _ _ _ (c .before .before .before .before .before .before .before .before .before .before .before .before .before .before .before .read-head .ensures) (c .before .before .before .before .before .before .before .before .before .before .before .before .before .before .take-line .ensures) (c .before .before .before .before .before .before .before .before .before .before .before .before .if1 .left) _ (c .before .before .before .before .before .before .before .before .before .before .check-components .ensures .0) _ _ _ _ (ap (λ (n : ℕ). n / 3) (c .before .before .before .before .before .before .before .before .before .before .check-components .kept .1 .1 .1 .1 .0)) (c .before .before .before .before .before .before .if2 .left) (c .before .before .before .before .before .if3 .taken) (c .before .before .before .check-table .ensures .0) (c .past-line .ensures), λ h. rw (c .past-line .ensures) (c .before .before .before .check-table .ensures .1 (c .before .before .before .before .before .before .before .before .before .before .check-components .ensures .1 (clean-head _ _ _ _ _ _ _ (c .before .before .before .before .before .before .before .before .before .before .before .before .before .before .take-line .ensures) h))))
 
 check-line-same-length-3 : (t : ℕ) → check-line-lts.Need-same-length-3 (
   read-head-reads.Asked,
@@ -200,8 +200,8 @@ check-line-same-length-3 : (t : ℕ) → check-line-lts.Need-same-length-3 (
   check-components-reads.Learnt,
   check-table-below t,
   check-table.Post,
-  behind-reads.Asked,
-  behind-reads.Learnt,
+  past-line-reads.Asked,
+  past-line-reads.Learnt,
 ) (check-line-at t) check-line.Post
 check-line-same-length-3 t c = c .before .before .before .before .before .check-components .kept .1 .1 .1 .1 .0
 
@@ -214,8 +214,8 @@ check-line-returns-4 : (t : ℕ) → check-line-lts.Need-returns-4 (
   check-components-reads.Learnt,
   check-table-below t,
   check-table.Post,
-  behind-reads.Asked,
-  behind-reads.Learnt,
+  past-line-reads.Asked,
+  past-line-reads.Learnt,
 ) (check-line-at t) check-line.Post
 check-line-returns-4 t c = (line-plain _ _ _ _ _ _ _ _ _ _ _ (c .before .before .before .before .before .before .before .before .before .before .read-head .ensures) (c .before .before .before .before .before .before .before .before .before .take-line .ensures) (c .before .before .before .before .before .before .before .if1 .left) _ (c .before .before .before .before .before .check-components .ensures .0) (c .before .if2 .left) (c .if3 .left), λ h. c .before .before .before .before .before .check-components .ensures .1 (clean-head _ _ _ _ _ _ _ (c .before .before .before .before .before .before .before .before .before .take-line .ensures) h))
 
@@ -501,8 +501,8 @@ pub +check-line+check-table-spec : {M : Type 1} → statement M
   check-components-reads.Learnt,
   check-table-below t,
   check-table.Post,
-  behind-reads.Asked,
-  behind-reads.Learnt,
+  past-line-reads.Asked,
+  past-line-reads.Learnt,
 )
     (check-line-at t)
     check-line.Post
@@ -513,7 +513,7 @@ pub +check-line+check-table-spec : {M : Type 1} → statement M
     (check-line-same-length t)
     (check-line-returns-2 t)
     (check-line-check-table-requires t)
-    (check-line-behind-requires t)
+    (check-line-past-line-requires t)
     (check-line-same-length-2 t)
     (check-line-returns-3 t)
     (check-line-same-length-3 t)

@@ -41,12 +41,12 @@ returns-4 : tie.Need-returns-4
 unfolding takeComponent if_then_else_
 returns-4 c = (simp (c .refused3 .ensures, ne-eqb _ _ (c .before .before .before .before .before .before .if1 .left), via (c .before .before .before .before .before .is-padded .ensures) (not-false _ (c .before .before .before .before .if2 .left)), c .before .before .before .if3 .left, ne-eqb _ _ (c .before .if4 .taken)), λ h. rw (c .refused3 .ensures) h)
 
-passed-requires : tie.Need-passed-requires
-passed-requires c κs = search needs
+read-to-requires : tie.Need-read-to-requires
+read-to-requires c κs = search needs
 
 returns-5 : tie.Need-returns-5
 unfolding takeComponent if_then_else_
-returns-5 c = (simp (c .passed .ensures, ne-eqb _ _ (c .before .before .before .before .before .before .if1 .left), via (c .before .before .before .before .before .is-padded .ensures) (not-false _ (c .before .before .before .before .if2 .left)), c .before .before .before .if3 .left, eq-eqb _ _ (c .before .if4 .left)), λ h. rw (c .passed .ensures) h)
+returns-5 c = (simp (c .read-to .ensures, ne-eqb _ _ (c .before .before .before .before .before .before .if1 .left), via (c .before .before .before .before .before .is-padded .ensures) (not-false _ (c .before .before .before .before .if2 .left)), c .before .before .before .if3 .left, eq-eqb _ _ (c .before .if4 .left)), λ h. rw (c .read-to .ensures) h)
 
 pub take-component-spec : {M : Type 1} → statement M
 take-component-spec =
@@ -62,5 +62,5 @@ take-component-spec =
     returns-3
     refused-requires-3
     returns-4
-    passed-requires
+    read-to-requires
     returns-5)

@@ -1,7 +1,7 @@
 -- At a trigger's code the definition comes to a trigger without a place.
 use Rattle.laws.specs.Choice.{if_then_else_}
 use Rattle.cmf.specs.Readers.{kindAt, sheetPlaceAt}
-use Rattle.field.specs.Table.{profileOf}
+use Rattle.field.specs.Profiles.{profileOf}
 use borrow.Author.Needs.{needs}
 use Rattle.cmf.proofs.component.Component.refused.Statement.{statement}
 use Rattle.cmf.proofs.component.Component.refused.Tie as tie

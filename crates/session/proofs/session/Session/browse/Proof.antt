@@ -6,8 +6,8 @@ use borrow.Author.Needs.{needs}
 use Rattle.session.proofs.session.Session.browse.Statement.{statement}
 use Rattle.session.proofs.session.Session.browse.Tie as tie
 
-awake-requires : tie.Need-awake-requires
-awake-requires c κs = search needs
+reset-idle-requires : tie.Need-reset-idle-requires
+reset-idle-requires c κs = search needs
 
 up-requires : tie.Need-up-requires
 up-requires c κs = search needs
@@ -32,23 +32,23 @@ flash-requires c κs = search needs
 
 returns : tie.Need-returns
 unfolding browseStep if_then_else_
-returns c = simp (c .up .ensures, c .before .before .awake .ensures, c .before .match .keys1)
+returns c = simp (c .up .ensures, c .before .before .reset-idle .ensures, c .before .match .keys1)
 
 returns-2 : tie.Need-returns-2
 unfolding browseStep if_then_else_
-returns-2 c = simp (c .down .ensures, c .before .before .awake .ensures, c .before .match .keys2)
+returns-2 c = simp (c .down .ensures, c .before .before .reset-idle .ensures, c .before .match .keys2)
 
 returns-3 : tie.Need-returns-3
 unfolding browseStep if_then_else_
-returns-3 c = simp (c .left .ensures, c .before .before .awake .ensures, c .before .match .keys3)
+returns-3 c = simp (c .left .ensures, c .before .before .reset-idle .ensures, c .before .match .keys3)
 
 returns-4 : tie.Need-returns-4
 unfolding browseStep if_then_else_
-returns-4 c = simp (c .right .ensures, c .before .before .awake .ensures, c .before .match .keys4)
+returns-4 c = simp (c .right .ensures, c .before .before .reset-idle .ensures, c .before .match .keys4)
 
 returns-5 : tie.Need-returns-5
 unfolding browseStep if_then_else_
-returns-5 c = simp (c .enter .ensures, c .before .before .awake .ensures, c .before .match .keys5)
+returns-5 c = simp (c .enter .ensures, c .before .before .reset-idle .ensures, c .before .match .keys5)
 
 returns-6 : tie.Need-returns-6
 unfolding browseStep if_then_else_
@@ -56,13 +56,13 @@ returns-6 c = simp (c .browse-second .ensures, c .before .match .keys6)
 
 returns-7 : tie.Need-returns-7
 unfolding browseStep if_then_else_
-returns-7 c = simp (c .flash .ensures, c .before .before .awake .ensures) (search tests)
+returns-7 c = simp (c .flash .ensures, c .before .before .reset-idle .ensures) (search tests)
 
 pub browse-spec : {M : Type 1} → statement M
 browse-spec =
     tie.close
     (tie.spec
-    awake-requires
+    reset-idle-requires
     up-requires
     down-requires
     left-requires

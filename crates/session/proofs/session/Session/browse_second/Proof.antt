@@ -14,8 +14,8 @@ waited-requires c κs = search needs
 later-requires : tie.Need-later-requires
 later-requires c κs = search needs
 
-passed-requires : tie.Need-passed-requires
-passed-requires c κs = search needs
+delay-over-requires : tie.Need-delay-over-requires
+delay-over-requires c κs = search needs
 
 at-top-requires : tie.Need-at-top-requires
 at-top-requires c κs = search needs
@@ -24,13 +24,13 @@ taken-requires : tie.Need-taken-requires
 taken-requires c κs = search needs
 
 returns : tie.Need-returns
-returns c = top-shown _ (c .before .before .before .before .before .before .before .before .args .self) _ (c .before .before .before .before .before .before .read .ensures) _ (c .before .before .before .before .later .ensures) _ _ (c .before .before .before .passed .ensures) (c .before .before .if1 .taken) (c .taken .ensures ∙ rw (c .before .at-top .ensures, c .before .before .before .before .before .waited .ensures))
+returns c = top-shown _ (c .before .before .before .before .before .before .before .before .args .self) _ (c .before .before .before .before .before .before .read .ensures) _ (c .before .before .before .before .later .ensures) _ _ (c .before .before .before .delay-over .ensures) (c .before .before .if1 .taken) (c .taken .ensures ∙ rw (c .before .at-top .ensures, c .before .before .before .before .before .waited .ensures))
 
 taken-requires-2 : tie.Need-taken-requires-2
 taken-requires-2 c κs = search needs
 
 returns-2 : tie.Need-returns-2
-returns-2 c = still-here _ (c .before .before .before .before .before .before .before .args .self) _ (c .before .before .before .before .before .read .ensures) _ (c .before .before .before .later .ensures) _ _ (c .before .before .passed .ensures) (c .before .if1 .left) (c .taken2 .ensures ∙ rw (c .before .before .before .before .waited .ensures))
+returns-2 c = still-here _ (c .before .before .before .before .before .before .before .args .self) _ (c .before .before .before .before .before .read .ensures) _ (c .before .before .before .later .ensures) _ _ (c .before .before .delay-over .ensures) (c .before .if1 .left) (c .taken2 .ensures ∙ rw (c .before .before .before .before .waited .ensures))
 
 pub browse-second-spec : {M : Type 1} → statement M
 browse-second-spec =
@@ -39,7 +39,7 @@ browse-second-spec =
     read-requires
     waited-requires
     later-requires
-    passed-requires
+    delay-over-requires
     at-top-requires
     taken-requires
     returns

@@ -7,8 +7,8 @@ use Rattle.session.proofs.session.Session.follow.Tie as tie
 enum-told : tie.Need-enum-told
 enum-told c = search needs
 
-at-work-requires : tie.Need-at-work-requires
-at-work-requires c κs = search needs
+in-visit-requires : tie.Need-in-visit-requires
+in-visit-requires c κs = search needs
 
 taken-requires : tie.Need-taken-requires
 taken-requires c κs = search needs
@@ -22,8 +22,8 @@ flash-requires c κs = search needs
 enum-told-3 : tie.Need-enum-told-3
 enum-told-3 c = search needs
 
-at-work-requires-2 : tie.Need-at-work-requires-2
-at-work-requires-2 c κs = search needs
+in-visit-requires-2 : tie.Need-in-visit-requires-2
+in-visit-requires-2 c κs = search needs
 
 taken-requires-2 : tie.Need-taken-requires-2
 taken-requires-2 c κs = search needs
@@ -48,7 +48,7 @@ taken-requires-3 c κs = search needs
 
 returns : tie.Need-returns
 unfolding followed followedSheet
-returns c = (simp (c .taken .ensures, c .before .at-work .ensures, c .before .before .enum-told .given .1), simp (c .before .before .enum-told .given .1))
+returns c = (simp (c .taken .ensures, c .before .in-visit .ensures, c .before .before .enum-told .given .1), simp (c .before .before .enum-told .given .1))
 
 returns-2 : tie.Need-returns-2
 unfolding followed followedSheet
@@ -56,7 +56,7 @@ returns-2 c = (simp (c .flash .ensures, c .before .enum-told2 .given .1), simp (
 
 returns-3 : tie.Need-returns-3
 unfolding followed followedSheet
-returns-3 c = (simp (c .taken2 .ensures, c .before .at-work2 .ensures, c .before .before .enum-told3 .given .1), simp (c .before .before .enum-told3 .given .1))
+returns-3 c = (simp (c .taken2 .ensures, c .before .in-visit2 .ensures, c .before .before .enum-told3 .given .1), simp (c .before .before .enum-told3 .given .1))
 
 same-length : tie.Need-same-length
 same-length c = search needs
@@ -81,12 +81,12 @@ follow-spec =
     tie.close
     (tie.spec
     enum-told
-    at-work-requires
+    in-visit-requires
     taken-requires
     enum-told-2
     flash-requires
     enum-told-3
-    at-work-requires-2
+    in-visit-requires-2
     taken-requires-2
     enum-told-4
     finish-requires

@@ -4,14 +4,14 @@ use borrow.Author.Needs.{needs}
 use Rattle.session.proofs.session.Session.give_up.Statement.{statement}
 use Rattle.session.proofs.session.Session.give_up.Tie as tie
 
-doing-requires : tie.Need-doing-requires
-doing-requires c κs = search needs
+in-mode-requires : tie.Need-in-mode-requires
+in-mode-requires c κs = search needs
 
 taken-requires : tie.Need-taken-requires
 taken-requires c κs = search needs
 
 returns : tie.Need-returns
-returns c = c .taken .ensures ∙ rw (c .before .doing .ensures)
+returns c = c .taken .ensures ∙ rw (c .before .in-mode .ensures)
 
 pub give-up-spec : {M : Type 1} → statement M
-give-up-spec = tie.close (tie.spec doing-requires taken-requires returns)
+give-up-spec = tie.close (tie.spec in-mode-requires taken-requires returns)

@@ -18,8 +18,8 @@ visit-at-requires c κs = search needs
 enum-told : tie.Need-enum-told
 enum-told c = search needs
 
-doing-requires : tie.Need-doing-requires
-doing-requires c κs = search needs
+in-mode-requires : tie.Need-in-mode-requires
+in-mode-requires c κs = search needs
 
 returns : tie.Need-returns
 unfolding movedTo
@@ -27,7 +27,7 @@ returns c = moved-is _ _ (c .before .before .before .before .before .before .bef
 
 returns-2 : tie.Need-returns-2
 unfolding movedTo
-returns-2 c = moved-is _ _ (c .before .before .before .before .before .before .before .before .args .self) _ _ _ (c .before .before .before .before .before .next-editable .ensures) (c .doing .ensures ∙ rw (c .before .before .before .enum-told .given .1))
+returns-2 c = moved-is _ _ (c .before .before .before .before .before .before .before .before .args .self) _ _ _ (c .before .before .before .before .before .next-editable .ensures) (c .in-mode .ensures ∙ rw (c .before .before .before .enum-told .given .1))
 
 pub moved-on-spec : {M : Type 1} → statement M
 moved-on-spec =
@@ -37,6 +37,6 @@ moved-on-spec =
     enum-known-f
     visit-at-requires
     enum-told
-    doing-requires
+    in-mode-requires
     returns
     returns-2)

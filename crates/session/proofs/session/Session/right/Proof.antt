@@ -8,14 +8,14 @@ use Rattle.session.proofs.session.Session.right.Tie as tie
 cursor-head-requires : tie.Need-cursor-head-requires
 cursor-head-requires c κs = search needs
 
-doing-requires : tie.Need-doing-requires
-doing-requires c κs = search needs
+in-mode-requires : tie.Need-in-mode-requires
+in-mode-requires c κs = search needs
 
 taken-requires : tie.Need-taken-requires
 taken-requires c κs = search needs
 
 returns : tie.Need-returns
-returns c = right-asks _ (c .before .before .before .before .before .before .before .before .args .self) _ (c .before .before .before .before .before .before .cursor-head .ensures) _ (c .before .before .before .before .before .if1 .taken) (c .before .before .before .before .if2 .taken) (c .taken .ensures ∙ rw (c .before .doing .ensures))
+returns c = right-asks _ (c .before .before .before .before .before .before .before .before .args .self) _ (c .before .before .before .before .before .before .cursor-head .ensures) _ (c .before .before .before .before .before .if1 .taken) (c .before .before .before .before .if2 .taken) (c .taken .ensures ∙ rw (c .before .in-mode .ensures))
 
 descend-requires : tie.Need-descend-requires
 descend-requires c κs = search needs
@@ -34,7 +34,7 @@ right-spec =
     tie.close
     (tie.spec
     cursor-head-requires
-    doing-requires
+    in-mode-requires
     taken-requires
     returns
     descend-requires

@@ -1,7 +1,7 @@
 -- Each mode has its case.
 use mathlib.Core.Path.{_∙_}
 use Rattle.session.proofs.Visiting.{in-visit, in-visit-sheet}
-use Rattle.session.specs.Event.{stepIn, sheetIn}
+use Rattle.session.specs.Step.{stepIn, sheetIn}
 use borrow.Author.Needs.{needs}
 use Rattle.session.proofs.session.Session.step.Statement.{statement}
 use Rattle.session.proofs.session.Session.step.Tie as tie

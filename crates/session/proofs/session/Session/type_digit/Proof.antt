@@ -23,14 +23,14 @@ cast-if1 c = search needs
 add-t14 : tie.Need-add-t14
 add-t14 c = search needs
 
-doing-requires : tie.Need-doing-requires
-doing-requires c κs = search needs
+in-mode-requires : tie.Need-in-mode-requires
+in-mode-requires c κs = search needs
 
 taken-requires : tie.Need-taken-requires
 taken-requires c κs = search needs
 
 returns : tie.Need-returns
-returns c = digit-more _ (c .before .before .before .before .before .before .before .before .before .args .self) _ (c .before .before .before .before .before .before .before .cursor-head .ensures) (c .before .before .before .before .before .before .before .before .before .args .count) (c .before .before .before .before .before .before .before .before .before .args .d) _ _ (c .before .before .before .before .byte-at .ensures) (c .before .before .before .before .before .with-digit .ensures) _ (c .before .before .before .if1 .taken) (c .taken .ensures ∙ rw (c .before .doing .ensures))
+returns c = digit-more _ (c .before .before .before .before .before .before .before .before .before .args .self) _ (c .before .before .before .before .before .before .before .cursor-head .ensures) (c .before .before .before .before .before .before .before .before .before .args .count) (c .before .before .before .before .before .before .before .before .before .args .d) _ _ (c .before .before .before .before .byte-at .ensures) (c .before .before .before .before .before .with-digit .ensures) _ (c .before .before .before .if1 .taken) (c .taken .ensures ∙ rw (c .before .in-mode .ensures))
 
 last-digit-requires : tie.Need-last-digit-requires
 last-digit-requires c κs = search needs
@@ -48,7 +48,7 @@ type-digit-spec =
     byte-at-requires
     cast-if1
     add-t14
-    doing-requires
+    in-mode-requires
     taken-requires
     returns
     last-digit-requires

@@ -16,8 +16,8 @@ read-component-requires c κs = search needs
 press-requires : tie.Need-press-requires
 press-requires c κs = search needs
 
-awake-requires : tie.Need-awake-requires
-awake-requires c κs = search needs
+reset-idle-requires : tie.Need-reset-idle-requires
+reset-idle-requires c κs = search needs
 
 follow-requires : tie.Need-follow-requires
 follow-requires c κs = search needs
@@ -26,7 +26,7 @@ same-length : tie.Need-same-length
 same-length c = search needs
 
 returns-2 : tie.Need-returns-2
-returns-2 c = (key-step _ _ (c .before .before .before .before .before .before .before .before .before .before .before .before .args .self) (c .before .before .before .before .before .before .before .before .before .before .before .before .args .place) _ _ _ (c .before .before .before .before .before .before .before .before .before .if1 .left) (c .before .before .before .before .before .before .before .before .read-component .ensures) (c .before .before .before .before .before .press .ensures) _ _ (c .before .before .before .before .awake .ensures) (c .before .before .follow .ensures .0), key-sheet _ _ (c .before .before .before .before .before .before .before .before .before .before .before .before .args .self) (c .before .before .before .before .before .before .before .before .before .before .before .before .args .place) _ _ _ (c .before .before .before .before .before .before .before .before .before .if1 .left) (c .before .before .before .before .before .before .before .before .read-component .ensures) (c .before .before .before .before .before .press .ensures) _ (c .before .before .follow .ensures .1))
+returns-2 c = (key-step _ _ (c .before .before .before .before .before .before .before .before .before .before .before .before .args .self) (c .before .before .before .before .before .before .before .before .before .before .before .before .args .place) _ _ _ (c .before .before .before .before .before .before .before .before .before .if1 .left) (c .before .before .before .before .before .before .before .before .read-component .ensures) (c .before .before .before .before .before .press .ensures) _ _ (c .before .before .before .before .reset-idle .ensures) (c .before .before .follow .ensures .0), key-sheet _ _ (c .before .before .before .before .before .before .before .before .before .before .before .before .args .self) (c .before .before .before .before .before .before .before .before .before .before .before .before .args .place) _ _ _ (c .before .before .before .before .before .before .before .before .before .if1 .left) (c .before .before .before .before .before .before .before .before .read-component .ensures) (c .before .before .before .before .before .press .ensures) _ (c .before .before .follow .ensures .1))
 
 pub visit-spec : {M : Type 1} → statement M
 visit-spec =
@@ -36,7 +36,7 @@ visit-spec =
     returns
     read-component-requires
     press-requires
-    awake-requires
+    reset-idle-requires
     follow-requires
     same-length
     returns-2)

@@ -10,11 +10,11 @@ read-component-requires c κs = search needs
 begin-requires : tie.Need-begin-requires
 begin-requires c κs = search needs
 
-doing-requires : tie.Need-doing-requires
-doing-requires c κs = search needs
+in-mode-requires : tie.Need-in-mode-requires
+in-mode-requires c κs = search needs
 
 returns : tie.Need-returns
-returns c = visit-is _ _ (c .before .before .before .before .before .before .before .args .self) _ _ _ _ (c .before .before .before .before .read-component .ensures) (c .before .before .begin .ensures) (c .doing .ensures)
+returns c = visit-is _ _ (c .before .before .before .before .before .before .before .args .self) _ _ _ _ (c .before .before .before .before .read-component .ensures) (c .before .before .begin .ensures) (c .in-mode .ensures)
 
 pub visit-at-spec : {M : Type 1} → statement M
-visit-at-spec = tie.close (tie.spec read-component-requires begin-requires doing-requires returns)
+visit-at-spec = tie.close (tie.spec read-component-requires begin-requires in-mode-requires returns)

@@ -1,0 +1,78 @@
+// What an event answers, and a session with something changed.
+ghost use mathlib.Core.Path.{_≡_};
+ghost use Rattle.session.specs.Answers.{taken, flash, withIdle, withHere, inMode};
+use crate::session::Level;
+use crate::session::Mode;
+use crate::session::Session;
+use cmf::image::Image;
+use field::kind::ImagePlace;
+use field::work::Work;
+
+// The paper's answers. Taken: the event was heeded. Flash: it could not be. Finished: a visit of the field at a place was finished.
+// Fired: the trigger at a place was fired. Refused: with the refusal number.
+pub enum Answer {
+    Taken,
+    Flash,
+    Finished(ImagePlace),
+    Fired(ImagePlace),
+    Refused(u8),
+}
+
+pub struct Stepped {
+    pub session: Session,
+    pub answer: Answer,
+}
+
+impl Session {
+    pub(crate) fn taken(self) -> Stepped
+        ensures { λ r. ⌜ r ≡ taken self ⌝ }
+    {
+        Stepped {
+            session: self,
+            answer: Answer::Taken,
+        }
+    }
+
+    pub(crate) fn flash(self) -> Stepped
+        ensures { λ r. ⌜ r ≡ flash self ⌝ }
+    {
+        Stepped {
+            session: self,
+            answer: Answer::Flash,
+        }
+    }
+
+    // Any key makes the idle count 0.
+    pub(crate) fn reset_idle(mut self) -> Self
+        ensures { λ r. ⌜ r ≡ withIdle self 0 ⌝ }
+    {
+        self.idle = 0;
+        self
+    }
+
+    pub(crate) fn with_here(mut self, here: Level) -> Self
+        ensures { λ r. ⌜ r ≡ withHere self here ⌝ }
+    {
+        self.here = here;
+        self
+    }
+
+    // Another mode, working copy and digits typed.
+    pub(crate) fn in_mode(self, mode: Mode, work: Work, typed: [u8; Image::MAX_PASSWORD]) -> Self
+        ensures { λ r. ⌜ r ≡ inMode self mode work typed ⌝ }
+    {
+        let above = self.above;
+        let here = self.here;
+        Session {
+            columns: self.columns,
+            lines: self.lines,
+            outer: self.outer,
+            above,
+            here,
+            idle: self.idle,
+            mode,
+            work,
+            typed,
+        }
+    }
+}
