@@ -24,7 +24,7 @@ answer im sheet most (Structure.title left t) lines es = titleAnswer im left t
 answer im sheet most (Structure.head n before at p) lines es = onHead im sheet most n before p (cameTo at lines es) .progress .refusal
 answer im sheet most (Structure.component at p) lines es = onComponent im sheet most p (cameTo at lines es) .progress .refusal
 
--- a component that the walk comes to stands at the first even offset
+-- a component that the walk comes to is at the first even offset
 pub data Sits : Structure → Type 0 where
   title : {left t : ℕ} → Sits (Structure.title left t)
   head : {n before at p : ℕ} → Sits (Structure.head n before at p)

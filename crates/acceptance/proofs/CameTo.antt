@@ -21,11 +21,11 @@ clash p q = absurd (true≢false (sym p ∙ q))
 abbrev pub cameTo : ℕ → ℕ → List Entry → State
 cameTo at lines es = state (record { refusal = 0; at = at; lines = lines; fields = length es }) es
 
--- the entries es with those of the fields fs behind them
+-- the entries es with those of the fields fs after them
 abbrev pub put : List Entry → List Field → List Entry
 put es fs = es ++ map entryOf fs
 
--- fields put behind fields
+-- fields put after fields
 pub put-put : (es : List Entry) (fs gs : List Field) → put (put es fs) gs ≡ put es (fs ++ gs)
 put-put es fs gs = rw (append-assoc es (map entryOf fs) (map entryOf gs), map-append entryOf fs gs)
 

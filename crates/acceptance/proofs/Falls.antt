@@ -1,4 +1,4 @@
--- Where a structure comes behind structures that stand, the walk takes those and comes to it: its answer, if it is a refusal, is the walk's.
+-- Where a structure comes after structures without fault, the walk takes those and comes to it: its answer, if it is a refusal, is the walk's.
 use Prim.Native.Nat.{ℕ, zero, suc, _+_, _≤_, _<_}
 use mathlib.Core.Path.{_≡_, refl, sym, ap, _∙_}
 use mathlib.Core.Bool.{true}

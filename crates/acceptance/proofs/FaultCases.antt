@@ -1,4 +1,4 @@
--- 01's starred cases of refusals by the definition alone, with no check: nine bytes are 2, a prolog and nothing behind it 6, the other byte order 5.
+-- 01's starred cases of refusals by the definition alone, with no check: nine bytes are 2, a prolog and nothing after it 6, the other byte order 5.
 -- Every fact about the bytes is a computation.
 use Prim.Native.Nat.{ℕ, _≤_}
 use mathlib.Core.Path.{refl}
@@ -48,7 +48,7 @@ from-five j (PrologFault.mark-high x) = lit≤ tt
 pub other-order : (sheet : ℕ) → Refused turned sheet 5
 other-order sheet = Refused.prolog (record { applies = PrologFault.mark-low (λ e. omega arith); least = from-five })
 
--- behind a good prolog the first structure is the top table's title, and its length byte is needed
+-- after a good prolog the first structure is the top table's title, and its length byte is needed
 prolog : Prolog ten
 prolog = record {
   least = lit≤ tt;

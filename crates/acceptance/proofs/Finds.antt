@@ -1,4 +1,4 @@
--- A walk that is refused has come to a structure behind structures that stand, with that structure's answer.
+-- A walk that is refused has come to a structure after structures without fault, with that structure's answer.
 use Prim.Native.Nat.{ℕ, zero, suc, _+_, _≤_, _<_}
 use mathlib.Core.Path.{_≡_, refl, sym, ap, _∙_, subst}
 use mathlib.Core.Bool.{true, false}
@@ -52,7 +52,7 @@ module _ (im : List ℕ) (A : Agree im) (sheet most : ℕ) where
     answers = rw (append-nil es, add-zero lines) e;
   }
 
-  -- a structure behind a stretch that stands
+  -- a structure after a stretch without fault
   pastLine :
       {C D : Structure → List Field → ℕ → Type 0} (fs : List Field) (k lines : ℕ) (es : List Entry) (r : ℕ) → Takes sheet most es fs →
       (f : Fault C (lines + k) (put es fs) r) → D (f .structure) (fs ++ f .fields) (k + f .count) → Fault D lines es r

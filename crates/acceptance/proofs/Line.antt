@@ -66,7 +66,7 @@ module _ (im : List ℕ) (A : Agree im) (sheet most : ℕ) where
 
     -- ---- one line
 
-    -- a submenu, after which the walk goes on behind the line
+    -- a submenu, after which the walk goes on after the line
     submenu-goes : (p at lines : ℕ) (es es′ : List Entry) (k : ℕ) → headAt im p .submenu ≡ true → Came (submenu (headAt im p .table) (cameTo at lines es)) k es′ →
         onSubmenu im sheet most submenu (headAt im p) (cameTo at lines es) ≡ cameTo at k es′
     unfolding onSubmenu

@@ -1,5 +1,5 @@
 -- The components of a line: the walk over their places takes them exactly where the grammar has them. The list of places is long enough,
--- since each component ends behind its place and inside the image.
+-- since each component ends after its place and inside the image.
 use Prim.Native.Nat.{ℕ, zero, suc, _+_, _≤_, _<_}
 use mathlib.Core.Path.{_≡_, refl, sym, ap, _∙_}
 use mathlib.Core.Bool.{true, false}
@@ -39,7 +39,7 @@ module _ (im : List ℕ) (A : Agree im) where
   last-false {p} c l =
       let r = A .component-reads p (A .component-is c .refusal) in by-test (componentAt im p .last) (λ e. absurd (omega (arith, r .last e))) (λ e. e)
 
-  -- the turns left are enough for the component at p, the first from `at` on, and for those behind it
+  -- the turns left are enough for the component at p, the first from `at` on, and for those after it
   pub no-turns : {X : Type 0} {at p mid : ℕ} {fs : List Field} → Aligned im 0 at p → Component im p mid fs → (c : ℕ) → c ≡ evenFrom at → length im + 1 < c + 0 → X
   no-turns {p = p} a x c e h =
       let r = A .component-reads p (A .component-is x .refusal) in absurd (omega (arith, r .after, r .inside, A .even-is a .stands))

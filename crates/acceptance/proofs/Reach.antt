@@ -1,4 +1,4 @@
--- What navigation reaches from the top table stands in the derivation, level by level: each line of a table reached reads without fault, its
+-- What navigation reaches from the top table is in the derivation, level by level: each line of a table reached reads without fault, its
 -- fields are the image's, and its submenu is a table reached.
 use Prim.Native.Nat.{ℕ, zero, suc, _+_, _≤_, _<_}
 use mathlib.Core.Path.{_≡_, refl, sym, ap, subst}
@@ -37,7 +37,7 @@ pub data Chain (im : List ℕ) (fields : List Field) : List ℕ → Type 0 where
   last : {c : ℕ} → PartIn im fields c → componentAt im c .last ≡ true → Chain im fields (c ∷ [])
   more : {c : ℕ} {cs : List ℕ} → PartIn im fields c → componentAt im c .last ≡ false → Chain im fields cs → Chain im fields (c ∷ cs)
 
--- the table at t stands in the derivation with so many levels left, its own among them, and its fields are among the image's
+-- the table at t is in the derivation with so many levels left, its own among them, and its fields are among the image's
 pub record Reached (im : List ℕ) (fields : List Field) (left t : ℕ) : Type 0 where
   pub own : List Field
   pub count : ℕ

@@ -23,7 +23,7 @@ use Rattle.acceptance.specs.Check.{State, state, with, fine, refused, re
 use Rattle.acceptance.proofs.CameTo.{cameTo, put, code-refused, is-refused}
 use Rattle.acceptance.proofs.Takes.{Takes}
 
--- a place that follows another at once or behind one zero byte
+-- a place that follows another at once or after one zero byte
 pub padded-is : (im : List ℕ) (at p : ℕ) → ((at ≡ p → ⊥) → byteAt im at ≡ 0) → padded im at p ≡ true
 unfolding padded
 padded-is im at p h = if-ind (λ (b : Bool). b ≡ true) (at =? p) (λ _. refl) (λ e. eq-eqb _ 0 (h (eqb-false at p e)))

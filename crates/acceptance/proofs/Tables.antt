@@ -36,7 +36,7 @@ pub line-reads : (im : List ℕ) (A : Agree im) {Sub : ℕ → List Field → �
 line-reads im A (Line.plain mid h cs b) = head-reads im A h
 line-reads im A (Line.submenu mid h cs b s) = head-reads im A h
 
--- where the first line stands
+-- where the first line is
 pub first-line : (im : List ℕ) (A : Agree im) {Sub : ℕ → List Field → ℕ → Type 0} {t k : ℕ} {fs : List Field} (x : TableOver im Sub t fs k) → titleAt im t .line ≡ x .firstLine
 first-line im A {t = t} x =
     let i = A .title-is (x .title) in omega (arith, A .title-reads t (i .refusal) .line, i .ends, A .odd-is (x .aligned) .stands)

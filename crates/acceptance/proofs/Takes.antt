@@ -77,7 +77,7 @@ sheet-reads sheet f e = record {
   inside = room-le sheet (f .sheet .0) (sizeOf f) (and-r _ _ e);
 }
 
--- fields that have bytes and share none: one begins behind the other's end
+-- fields that have bytes and share none: one begins after the other's end
 pub no-shared :
     (f g : Field) → Disjoint f g → (sizeOf f ≡ 0 → ⊥) → (sizeOf g ≡ 0 → ⊥) → g .sheet .0 < f .sheet .0 + sizeOf f → f .sheet .0 < g .sheet .0 + sizeOf g → ⊥
 no-shared f g d nf ng a b =

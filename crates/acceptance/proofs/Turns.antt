@@ -26,7 +26,7 @@ unfolding andThen
 then-same x y z h =
     by-test (fine x) (λ e. if-true y x e ∙ h e ∙ sym (if-true z x e)) (λ e. if-false y x e ∙ sym (if-false z x e))
 
--- what has to be known of the reader: a component that is not marked as the last stands in the image, and the next one behind it
+-- what has to be known of the reader: a component that is not marked as the last is in the image, and the next one after it
 abbrev pub Onward : List ℕ → Type 0
 Onward im = (c : ℕ) → componentAt im c .last ≡ false → (c < length im) × (c < componentAt im c .next)
 

@@ -1,5 +1,6 @@
--- The check of an image and a sheet: 01's table of refusals, structure by structure in the order of the walk: depth first, lines in
--- order, a line's components before its submenu; the first structure at fault decides, and at one structure the lowest number.
+-- The check of an image and a sheet: 01's table of refusals, structure by structure in the order of the walk:
+-- depth first, lines in order, a line's components before its submenu; the first structure at fault decides,
+-- and at one structure the lowest number.
 use Prim.Native.Nat.{ℕ, zero, suc, _+_}
 use mathlib.Core.Bool.{Bool, true, false}
 use mathlib.Core.List.{List, [], _∷_, _++_}
@@ -8,7 +9,8 @@ use Rattle.laws.specs.Choice.{if_then_else_, _and_, _=?_, _<?_, _≤?_}
 use Rattle.laws.specs.Bytes.{byteAt, room}
 use Rattle.field.specs.Sheet.{sizeOf}
 use Rattle.field.specs.declared.record.Field.{Field}
-use Rattle.cmf.specs.Limits.{longestImage, deepestTable, mostLinesOfTable, mostLines, mostFields, longestSheet, prologBytes}
+use Rattle.cmf.specs.Limits.{longestImage, deepestTable, mostLinesOfTable, mostLines, mostFields}
+use Rattle.cmf.specs.Limits.{longestSheet, prologBytes}
 use Rattle.cmf.specs.Readers.{oddFrom, titleAt, headAt, componentAt}
 use Rattle.cmf.specs.Places.{linesOf, componentsOf}
 use Rattle.cmf.specs.declared.title.Title.{Title}
@@ -39,15 +41,23 @@ refused w k = record { refusal = k; at = w .at; lines = w .lines; fields = w .fi
 abbrev pub readTo : Progress → ℕ → Progress
 readTo w at = record { refusal = 0; at = at; lines = w .lines; fields = w .fields }
 
--- the walk goes on behind a line that ends at `at`; where it is refused it stays where the last thing that stands ended
+-- the walk goes on after a line that ends at `at`; where it is refused it stays where the last structure
+-- without fault ended
 abbrev pub pastLine : Progress → ℕ → Progress
-pastLine w at = record { refusal = w .refusal; at = if w .refusal =? 0 then at else w .at; lines = w .lines; fields = w .fields }
+pastLine w at = record {
+  refusal = w .refusal;
+  at = if w .refusal =? 0 then at
+      else w .at;
+  lines = w .lines;
+  fields = w .fields;
+}
 
 -- the second, unless the first is a refusal
 unfoldable pub andThen : State → State → State
 andThen x y = if fine x then y else x
 
--- R6: what stands at `place`, which is `at` or the byte behind it, follows what ended at `at`, at once or behind one zero byte
+-- R6: what is at `place`, which is `at` or the byte after it, follows what ended at `at`, at once or after
+-- one zero byte
 unfoldable pub padded : List ℕ → ℕ → ℕ → Bool
 padded im at place = if at =? place then true else byteAt im at =? 0
 
@@ -58,14 +68,15 @@ takeTitle t w = if t .refusal =? 0 then readTo w (t .end) else refused w (t .ref
 
 -- ---- a line's head
 
--- R8: the first mark stands at the first line only, and prev-line-ofs is the distance from the line before; n lines of the table come before
+-- R8: the first mark is at the first line only, and prev-line-ofs is the distance from the line before; n
+-- lines of the table come before
 unfoldable pub agrees : ℕ → ℕ → ℕ → Head → Bool
 agrees n before p h =
     if n =? 0 then h .first
     else if h .first then false
     else before + h .back =? p
 
--- R6, R7, R8: a line stands where the one before leads and at the first odd place
+-- R6, R7, R8: a line is where the one before leads and at the first odd place
 unfoldable pub linePlaced : List ℕ → ℕ → ℕ → ℕ → Head → Progress → Bool
 linePlaced im n before p h w = (p =? oddFrom (w .at)) and (padded im (w .at) p and agrees n before p h)
 
@@ -104,14 +115,16 @@ unfoldable pub apartFrom : Entry → List Entry → Bool
 apartFrom e [] = true
 apartFrom e (f ∷ fs) = apart e f and apartFrom e fs
 
--- a field: 8 if there are as many as there may be (`most`: the code's array has room for no more), 9 for bad settings, 10 and 11 for its bytes in the sheet
+-- a field: 8 if there are as many as there may be (`most`: the code's array has room for no more), 9 for bad
+-- settings, 10 and 11 for its bytes in the sheet
 unfoldable pub takeField : ℕ → ℕ → Component → State → State
 takeField sheet most c s =
     if most ≤? s .progress .fields then with s (refused (s .progress) 8)
     else if c .refusal =? 0 then
     (if inSheet sheet (entryOf (c .field)) then
     (if apartFrom (entryOf (c .field)) (s .fields) then
-    state (record { refusal = 0; at = c .end; lines = s .progress .lines; fields = s .progress .fields + 1 }) (s .fields ++ (entryOf (c .field) ∷ []))
+    state (record { refusal = 0; at = c .end; lines = s .progress .lines; fields = s .progress .fields + 1 })
+    (s .fields ++ (entryOf (c .field) ∷ []))
     else with s (refused (s .progress) 11))
     else with s (refused (s .progress) 10))
     else with s (refused (s .progress) (c .refusal))
@@ -143,12 +156,14 @@ module _ (im : List ℕ) (sheet most : ℕ) where
   onTitle t s = with s (takeTitle (titleAt im t) (s .progress))
 
   module _ (submenu : ℕ → State → State) where
-    -- a line's submenu; the walk then goes on behind the line
+    -- a line's submenu; the walk then goes on after the line
     unfoldable pub onSubmenu : Head → State → State
-    onSubmenu h s = if h .submenu then with (submenu (h .table) s) (pastLine (submenu (h .table) s .progress) (s .progress .at)) else s
+    onSubmenu h s = if h .submenu then with (submenu (h .table) s)
+        (pastLine (submenu (h .table) s .progress) (s .progress .at)) else s
 
     unfoldable pub onBody : ℕ → State → State
-    onBody p s = andThen (onComponents (componentsOf im p) s) (onSubmenu (headAt im p) (onComponents (componentsOf im p) s))
+    onBody p s = andThen (onComponents (componentsOf im p) s)
+        (onSubmenu (headAt im p) (onComponents (componentsOf im p) s))
 
     unfoldable pub onLine : ℕ → ℕ → ℕ → State → State
     onLine n before p s = andThen (onHead n before p s) (onBody p (onHead n before p s))
@@ -158,7 +173,8 @@ module _ (im : List ℕ) (sheet most : ℕ) where
     onLines n before [] s = s
     onLines n before (p ∷ ps) s = andThen (onLine n before p s) (onLines (n + 1) p ps (onLine n before p s))
 
-  -- the table at a place; so many levels are left, its own among them. R15: a table too deep is 6 if its title is not all there, else 8
+  -- the table at a place; so many levels are left, its own among them. R15: a table too deep is 6 if its
+  -- title is not all there, else 8
   unfoldable pub onTable : ℕ → ℕ → State → State
   onTable zero t s = andThen (onTitle t s) (with (onTitle t s) (refused (onTitle t s .progress) 8))
   onTable (suc left) t s = andThen (onTitle t s) (onLines (onTable left) 0 0 (linesOf im t) (onTitle t s))

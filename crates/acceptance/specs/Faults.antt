@@ -1,5 +1,6 @@
--- Which number a bad image is refused with: 01's table of refusals and the sentences under it, apart from the check: no state, and no refusal that
--- is handed on. Four parts: rows 2 to 5; where rows 6 to 11 apply to a structure; which structure comes behind structures that stand; an image.
+-- Which number a bad image is refused with: 01's table of refusals and the sentences under it, apart from the
+-- check: no state, and no refusal that is handed on. Four parts: rows 2 to 5; where rows 6 to 11 apply to a
+-- structure; which structure comes after structures without fault; an image.
 use Prim.Native.Nat.{ℕ, zero, suc, _+_, _%_, _≤_, _<_}
 use mathlib.Core.Path.{_≡_}
 use mathlib.Core.List.{List, [], _∷_, _++_}
@@ -7,9 +8,12 @@ use lib.ListN.{length}
 use Rattle.laws.specs.Bytes.{byteAt, wordAt}
 use Rattle.field.specs.Sheet.{sizeOf}
 use Rattle.field.specs.declared.record.Field.{Field}
-use Rattle.cmf.specs.Limits.{longestImage, deepestTable, mostLinesOfTable, mostLines, mostFields, longestSheet, prologBytes}
+use Rattle.cmf.specs.Limits.{longestImage, deepestTable, mostLinesOfTable, mostLines, mostFields}
+use Rattle.cmf.specs.Limits.{longestSheet, prologBytes}
 use Rattle.cmf.specs.Layouts.{Text, Aligned, Component, Components, GoodSettings, lastBit}
-use Rattle.cmf.specs.Grammar.{Prolog, Head, Line, Table, Digits, Every, InSheet, Holds, Apart, isFirst, isLast, hasSubmenu, hasPassword, previousAt, passwordAt, nextLine, submenuTable}
+use Rattle.cmf.specs.Grammar.{Prolog, Head, Line, Table, Digits, Every, InSheet, Holds, Apart, isFirst}
+use Rattle.cmf.specs.Grammar.{isLast, hasSubmenu, hasPassword, previousAt, passwordAt, nextLine}
+use Rattle.cmf.specs.Grammar.{submenuTable}
 use Rattle.cmf.specs.Forms.{Cut, HeadCut, HeadWrong, FieldIs, ComponentCut, ComponentWrong}
 
 -- ---- 01, rows 2 to 5
@@ -33,8 +37,9 @@ pub data PrologFault (im : List ℕ) : ℕ → Type 0 where
 
 -- ---- 01, rows 6 to 11: where a number applies to a structure
 
--- R13: the structures: a table's title, with so many levels left, its table's own among them; a line's head at p, with n lines before it in its
--- table, the nearest at `before`; a component at p. The last two come behind what ended at `at`
+-- R13: the structures: a table's title, with so many levels left, its table's own among them; a line's head
+-- at p, with n lines before it in its table, the nearest at `before`; a component at p. The last two come
+-- after what ended at `at`
 pub data Structure : Type 0 where
   title : (left t : ℕ) → Structure
   head : (n before at p : ℕ) → Structure
@@ -58,17 +63,19 @@ pub data TitleFault (im : List ℕ) (left t : ℕ) : ℕ → Type 0 where
 
 -- a line's head, with so many lines before it in the walk
 pub data HeadFault (im : List ℕ) (lines n before at p : ℕ) : ℕ → Type 0 where
-  -- row 6, R7: of the line as it is read at p. Where p is R6's place, a padding byte beyond the image has its tag beyond
-  -- it too; where p is elsewhere, that padding byte is not needed
+  -- row 6, R7: of the line as it is read at p. Where p is R6's place, a padding byte beyond the image has its
+  -- tag beyond it too; where p is elsewhere, that padding byte is not needed
   cut : HeadCut im p → HeadFault im lines n before at p 6
-  -- row 7: R9; R7, the line does not stand at the first odd offset; R6, the byte skipped is not zero
+  -- row 7: R9; R7, the line is not at the first odd offset; R6, the byte skipped is not zero
   wrong : HeadWrong im p → HeadFault im lines n before at p 7
   misplaced : (FirstOfParity 1 at p → ⊥) → HeadFault im lines n before at p 7
   padding : at < p → (byteAt im at ≡ 0 → ⊥) → HeadFault im lines n before at p 7
-  -- R8: no first mark at the first line, one at another, or a pointer back that does not lead to the line before
+  -- R8: no first mark at the first line, one at another, or a pointer back that does not lead to the line
+  -- before
   unmarked : n ≡ 0 → isFirst im p ≡ 0 → HeadFault im lines n before at p 7
   marked : 0 < n → isFirst im p ≡ 1 → HeadFault im lines n before at p 7
-  previous : 0 < n → isFirst im p ≡ 0 → (before + wordAt im (previousAt im p) ≡ p → ⊥) → HeadFault im lines n before at p 7
+  previous : 0 < n → isFirst im p ≡ 0 → (before + wordAt im (previousAt im p) ≡ p → ⊥)
+      → HeadFault im lines n before at p 7
   -- row 8: the 100th line of its table, the 1,025th line
   hundredth : mostLinesOfTable ≤ n → HeadFault im lines n before at p 8
   many : mostLines ≤ lines → HeadFault im lines n before at p 8
@@ -100,7 +107,8 @@ Applies im sheet fs lines (component at p) k = ComponentFault im sheet fs at p k
 
 -- ---- 01: the order of the walk: depth first, lines in order, a line's components before its submenu
 
--- among a line's components from `at` on a structure comes behind components that stand; these are the fields before it
+-- among a line's components from `at` on a structure comes after components without fault; these are the
+-- fields before it
 pub data InComponents (im : List ℕ) : (at : ℕ) (x : Structure) (fs : List Field) → Type 0 where
   here : {at : ℕ} (p : ℕ) → FirstOfParity 0 at p → InComponents im at (component at p) []
   later :
@@ -108,9 +116,10 @@ pub data InComponents (im : List ℕ) : (at : ℕ) (x : Structure) (fs : List Fi
       Aligned im 0 at p → Component im p mid fs → lastBit im p ≡ 0 → InComponents im mid x gs →
       InComponents im at x (fs ++ gs)
 
--- in the line at p, behind what ended at `at`: its head, a component behind it, or a structure of the submenu's table, which `Below` describes;
--- with the fields and the number of lines before it
-pub data InLine (im : List ℕ) (Below : ℕ → Structure → List Field → ℕ → Type 0) (n before at p : ℕ) : (x : Structure) (fs : List Field) (k : ℕ) → Type 0 where
+-- in the line at p, after what ended at `at`: its head, a component after it, or a structure of the submenu's
+-- table, which `Below` describes; with the fields and the number of lines before it
+pub data InLine (im : List ℕ) (Below : ℕ → Structure → List Field → ℕ → Type 0) (n before at p : ℕ) :
+    (x : Structure) (fs : List Field) (k : ℕ) → Type 0 where
   first : InLine im Below n before at p (head n before at p) [] 0
   components :
       {x : Structure} {fs : List Field} (mid : ℕ) →
@@ -118,12 +127,15 @@ pub data InLine (im : List ℕ) (Below : ℕ → Structure → List Field → �
       InLine im Below n before at p x fs 1
   submenu :
       {x : Structure} {fs gs : List Field} {k : ℕ} (mid end : ℕ) →
-      n < mostLinesOfTable → Aligned im 1 at p → Head im n before p mid → Components im mid end fs → hasSubmenu im p ≡ 1 →
+      n < mostLinesOfTable → Aligned im 1 at p → Head im n before p mid → Components im mid end fs
+      → hasSubmenu im p ≡ 1 →
       Below (submenuTable im p) x gs k →
       InLine im Below n before at p x (fs ++ gs) (1 + k)
 
--- in a table's lines from the one at p on: in this line, or in a later one, which is read where next-line-ofs leads (R7)
-pub data InLines (im : List ℕ) (Submenu : ℕ → List Field → ℕ → Type 0) (Below : ℕ → Structure → List Field → ℕ → Type 0) :
+-- in a table's lines from the one at p on: in this line, or in a later one, which is read where next-line-ofs
+-- leads (R7)
+pub data InLines (im : List ℕ) (Submenu : ℕ → List Field → ℕ → Type 0)
+    (Below : ℕ → Structure → List Field → ℕ → Type 0) :
     (n before at p : ℕ) (x : Structure) (fs : List Field) (k : ℕ) → Type 0 where
   this :
       {n before at p k : ℕ} {x : Structure} {fs : List Field} →
@@ -134,8 +146,9 @@ pub data InLines (im : List ℕ) (Submenu : ℕ → List Field → ℕ → Type 
       InLines im Submenu Below (n + 1) p end (nextLine im p) x gs j →
       InLines im Submenu Below n before at p x (fs ++ gs) (k + j)
 
--- in the table at t: its title, or behind the title in its lines, the first at the first odd offset
-pub data InTableOver (im : List ℕ) (Submenu : ℕ → List Field → ℕ → Type 0) (Below : ℕ → Structure → List Field → ℕ → Type 0) (left t : ℕ) :
+-- in the table at t: its title, or after the title in its lines, the first at the first odd offset
+pub data InTableOver (im : List ℕ) (Submenu : ℕ → List Field → ℕ → Type 0)
+    (Below : ℕ → Structure → List Field → ℕ → Type 0) (left t : ℕ) :
     (x : Structure) (fs : List Field) (k : ℕ) → Type 0 where
   first : InTableOver im Submenu Below left t (title left t) [] 0
   lines :
@@ -161,10 +174,12 @@ pub record Kept (sheet lines : ℕ) (fs : List Field) : Type 0 where
   pub inside : Every (InSheet sheet) fs
   pub apart : Apart fs
 
--- an image is refused with k: its prolog is, or the prolog is good and some structure, behind structures that all stand, is at fault
+-- an image is refused with k: its prolog is, or the prolog is good and some structure, after structures that
+-- are all without fault, is at fault
 pub data Refused (im : List ℕ) (sheet : ℕ) : ℕ → Type 0 where
   prolog : {k : ℕ} → Lowest (PrologFault im) k → Refused im sheet k
   progress :
       {k : ℕ} (x : Structure) (fs : List Field) (lines : ℕ) →
-      Prolog im → InTable im deepestTable prologBytes x fs lines → Kept sheet lines fs → Lowest (Applies im sheet fs lines x) k →
+      Prolog im → InTable im deepestTable prologBytes x fs lines → Kept sheet lines fs
+      → Lowest (Applies im sheet fs lines x) k →
       Refused im sheet k

@@ -18,7 +18,8 @@ capacity xs = length xs / 3
 
 -- the k-th entry; zeros past the capacity
 unfoldable pub entryAt : List ℕ → ℕ → Entry
-entryAt xs k = if k <? capacity xs then entry (getD xs (3 * k) 0) (getD xs (3 * k + 1) 0) (getD xs (3 * k + 2) 0) else entry 0 0 0
+entryAt xs k = if k <? capacity xs then entry (getD xs (3 * k) 0) (getD xs (3 * k + 1) 0)
+    (getD xs (3 * k + 2) 0) else entry 0 0 0
 
 -- the first k entries
 unfoldable pub listed : List ℕ → ℕ → List Entry
@@ -28,7 +29,8 @@ listed xs (suc k) = listed xs k ++ (entryAt xs k ∷ [])
 -- the array with its k-th entry set; as it was past the capacity
 unfoldable pub withEntry : List ℕ → ℕ → Entry → List ℕ
 withEntry xs k e =
-    if k <? capacity xs then set (set (set xs (3 * k) (e .place .0)) (3 * k + 1) (e .from .0)) (3 * k + 2) (e .size) else xs
+    if k <? capacity xs then set (set (set xs (3 * k) (e .place .0)) (3 * k + 1) (e .from .0)) (3 * k + 2)
+    (e .size) else xs
 
 -- the walk's state as the code has it
 abbrev pub seen : Progress → List ℕ → State

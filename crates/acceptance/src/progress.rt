@@ -1,8 +1,9 @@
-// Where the walk stands.
+// How far the walk has come.
 ghost use mathlib.Core.Path.{_≡_};
 ghost use Rattle.acceptance.specs.Check.{refused, readTo, pastLine};
 
-// The refusal number, 0 for none yet; where the last thing that stands ended; how many lines and fields stand.
+// The refusal number, 0 for none yet; where the last structure without fault ended; how many lines and fields
+// are without fault.
 pub struct Progress {
     pub refusal: u8,
     pub at: usize,
@@ -34,7 +35,7 @@ impl Progress {
         }
     }
 
-    // On behind a line that ends at a place; a refused walk stays where it is.
+    // On after a line that ends at a place; a refused walk stays where it is.
     pub fn past_line(self, at: usize) -> Self
         ensures { λ r. ⌜ r ≡ pastLine self at ⌝ }
     {

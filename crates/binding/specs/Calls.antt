@@ -54,7 +54,8 @@ drawNumber im sheet bs n =
 
 -- ---- Option text: where the item's own bytes begin in the image, and how many they are
 
--- a place counts so many times, so that the length of an item fits below it; a refusal of a text counts from the other
+-- a place counts so many times, so that the length of an item fits below it; a refusal of a text counts from
+-- the other
 abbrev pub placeFactor : ℕ
 placeFactor = 65536
 

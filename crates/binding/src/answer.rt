@@ -39,7 +39,7 @@ pub(crate) fn answer_number(answer: Answer) -> u32
     }
 }
 
-// Where the edit cursor stands, 0 for nowhere.
+// Where the edit cursor is, 0 for nowhere.
 pub(crate) fn cursor_number(cursor: EditCursor) -> u32
     requires { ⌜ cursorNumber (cursor_at.cursorPlace cursor) < 131072 ⌝ }
     ensures { λ r. ⌜ r ≡ cursorNumber (cursor_at.cursorPlace cursor) ⌝ }

@@ -3,7 +3,8 @@ ghost use mathlib.Core.Path.{_≡_};
 ghost use Prim.Native.Nat.{min};
 ghost use lib.ListN.{length};
 ghost use Rattle.session_bytes.specs.Layout.{sessionFrom};
-ghost use Rattle.binding.specs.Calls.{openNumber, openedSheet, openedBytes, openedSession, eventNumber, eventBytes, drawNumber, textNumber};
+ghost use Rattle.binding.specs.Calls.{openNumber, openedSheet, openedBytes, openedSession};
+ghost use Rattle.binding.specs.Calls.{eventNumber, eventBytes, drawNumber, textNumber};
 ghost use Rattle.handset.specs.Refusals.{_before_};
 ghost use Rattle.handset.specs.Open.{openRefusal};
 ghost use Rattle.handset.specs.Event.{eventStep, eventSheet};
@@ -59,10 +60,16 @@ pub extern "C" fn handset_open(
     lines: u32,
     session: &mut [u8],
 ) -> u32
-    ensures { λ r. ⌜ r ≡ openNumber (now (image .entry)) (length (now (sheet .entry))) columns lines (length (now (session .entry))) ⌝ }
-    ensures { λ _. ⌜ now (sheet .exit) ≡ openedSheet (now (image .entry)) (now (sheet .entry)) columns lines (length (now (session .entry))) ⌝ }
-    ensures { λ _. ⌜ now (session .exit) ≡ openedBytes (now (image .entry)) (length (now (sheet .entry))) columns lines (now (session .entry)) ⌝ }
-    ensures { λ _. ⌜ sessionFrom (now (session .exit)) ≡ openedSession (now (image .entry)) (length (now (sheet .entry))) columns lines (length (now (session .entry))) ⌝ }
+    ensures { λ r. ⌜ r ≡ openNumber (now (image .entry)) (length (now (sheet .entry))) columns lines
+        (length (now (session .entry))) ⌝ }
+    ensures { λ _. ⌜ now (sheet .exit) ≡ openedSheet (now (image .entry)) (now (sheet .entry)) columns lines
+        (length (now (session .entry))) ⌝ }
+    ensures { λ _. ⌜ now (session .exit)
+        ≡ openedBytes (now (image .entry)) (length (now (sheet .entry))) columns lines
+        (now (session .entry)) ⌝ }
+    ensures { λ _. ⌜ sessionFrom (now (session .exit))
+        ≡ openedSession (now (image .entry)) (length (now (sheet .entry))) columns lines
+        (length (now (session .entry))) ⌝ }
 {
     let across = byte_of(columns);
     let down = byte_of(lines);
@@ -83,9 +90,13 @@ pub extern "C" fn handset_event(
     event: u32,
 ) -> u32
     ensures { λ r. ⌜ r ≡ eventNumber (now (image .entry)) (now (sheet .entry)) (now (session .entry)) event ⌝ }
-    ensures { λ _. ⌜ now (sheet .exit) ≡ eventSheet (now (image .entry)) (now (sheet .entry)) (sessionFrom (now (session .entry))) event ⌝ }
-    ensures { λ _. ⌜ now (session .exit) ≡ eventBytes (now (image .entry)) (now (sheet .entry)) (now (session .entry)) event ⌝ }
-    ensures { λ _. ⌜ sessionFrom (now (session .exit)) ≡ eventStep (now (image .entry)) (now (sheet .entry)) (sessionFrom (now (session .entry))) event .session ⌝ }
+    ensures { λ _. ⌜ now (sheet .exit) ≡ eventSheet (now (image .entry)) (now (sheet .entry))
+        (sessionFrom (now (session .entry))) event ⌝ }
+    ensures { λ _. ⌜ now (session .exit)
+        ≡ eventBytes (now (image .entry)) (now (sheet .entry)) (now (session .entry)) event ⌝ }
+    ensures { λ _. ⌜ sessionFrom (now (session .exit))
+        ≡ eventStep (now (image .entry)) (now (sheet .entry))
+        (sessionFrom (now (session .entry))) event .session ⌝ }
 {
     let stepped = handset::event::event(
         image,
@@ -110,8 +121,11 @@ pub extern "C" fn handset_draw(
     session: &[u8],
     picture: &mut [u8],
 ) -> u32
-    ensures { λ r. ⌜ r ≡ drawNumber (now (image .entry)) (length (now (sheet .entry))) (now (session .entry)) (length (now (picture .entry))) ⌝ }
-    ensures { λ _. ⌜ now (picture .exit) ≡ drawnPicture (now (image .entry)) (now (sheet .entry)) (sessionFrom (now (session .entry))) (now (picture .entry)) ⌝ }
+    ensures { λ r. ⌜ r ≡ drawNumber (now (image .entry)) (length (now (sheet .entry))) (now (session .entry))
+        (length (now (picture .entry))) ⌝ }
+    ensures { λ _. ⌜ now (picture .exit)
+        ≡ drawnPicture (now (image .entry)) (now (sheet .entry)) (sessionFrom (now (session .entry)))
+        (now (picture .entry)) ⌝ }
 {
     let shown = read_session(session);
     let drawn = draw(image, sheet, shown, &mut *picture);

@@ -61,7 +61,7 @@ pub record TitleIs (im : List ℕ) (at end : ℕ) : Type 0 where
   pub refusal : titleAt im at .refusal ≡ 0
   pub ends : titleAt im at .end ≡ end
 
--- a place that is aligned behind another
+-- a place that is aligned after another
 pub record PlaceIs (im : List ℕ) (at place from : ℕ) : Type 0 where
   pub stands : place ≡ from
   pub zeroed : (at ≡ place → ⊥) → byteAt im at ≡ 0

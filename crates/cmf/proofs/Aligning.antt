@@ -1,4 +1,4 @@
--- Padding: the place that is aligned behind another is the first odd or even one, and a byte skipped is zero.
+-- Padding: the place that is aligned after another is the first odd or even one, and a byte skipped is zero.
 use Prim.Native.Nat.{ℕ, _+_, _%_, _≤_, _<_}
 use mathlib.Core.Path.{_≡_}
 use mathlib.Core.List.{List}
@@ -9,14 +9,14 @@ use Rattle.cmf.specs.Readers.{oddFrom, evenFrom}
 use Rattle.cmf.proofs.Agreement.{PlaceIs}
 
 module _ {im : List ℕ} where
-  -- a place that is aligned and stands where it should
+  -- a place that is aligned, where it should be
   is : {parity at place from : ℕ} → Aligned im parity at place → place ≡ from → PlaceIs im at place from
   is a e = record { stands = e; zeroed = λ n. a .zeroed (later (a .after) n) }
     where
       later : {at place : ℕ} → at ≤ place → (at ≡ place → ⊥) → at < place
       later l n = omega arith
 
-  -- it stands at the first odd place
+  -- it is at the first odd place
   pub odd-is : {at place : ℕ} → Aligned im 1 at place → PlaceIs im at place (oddFrom at)
   odd-is a = is a (omega arith)
 

@@ -37,7 +37,7 @@ image =
     0x95 ∷ 2 ∷ 0x4f ∷ 0x4b ∷  -- 58: text 'OK', last
     []
 
--- a structure that needs no padding, and one behind a zero byte
+-- a structure that needs no padding, and one after a zero byte
 here : (im : List ℕ) (parity at : ℕ) → at % 2 ≡ parity → Aligned im parity at at
 here im parity at e = record { agrees = e; after = omega arith; first = omega arith; inside = λ h. omega arith; zeroed = λ h. omega arith }
 
@@ -170,7 +170,7 @@ example = record {
 abbrev pub wrongPadding : List ℕ
 wrongPadding = set image 23 1
 
--- no component can stand behind that byte
+-- no component can come after that byte
 skipped : (at p : ℕ) → at ≡ 23 → Aligned wrongPadding 0 at p → ⊥
 skipped at p e a =
     let z : byteAt wrongPadding at ≡ 0 = a .zeroed (omega arith) in

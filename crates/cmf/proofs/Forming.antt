@@ -1,5 +1,5 @@
 -- What a reader answers where something is at fault: it reads 6 exactly where a byte is needed beyond the image, else 7 exactly where section 7
--- does not give what stands there. Each reading is told with what holds and what does not, so that both ways follow.
+-- does not give what is there. Each reading is told with what holds and what does not, so that both ways follow.
 use Prim.Native.Nat.{ℕ, zero, suc, _+_, _*_, _≤_, _<_, max}
 use mathlib.Core.Path.{_≡_, refl, sym, ap, _∙_}
 use mathlib.Core.Bool.{Bool, true, false, true≢false}

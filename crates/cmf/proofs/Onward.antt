@@ -1,4 +1,4 @@
--- A component that is not marked as the last stands in the image, and the next one behind it.
+-- A component that is not marked as the last is in the image, and the next one after it.
 use Prim.Native.Nat.{ℕ, zero, suc, _+_, _-_, _%_, _≤_, _<_, max}
 use mathlib.Core.Path.{_≡_}
 use mathlib.Core.Bool.{true, false, true≢false}

@@ -32,7 +32,7 @@ module _ (im : List ℕ) where
   unfolding fixedBytes
   some-byte c e = search (if-min, lit≤) depth 40
 
-  -- its end is behind it and in the image
+  -- its end is after it and in the image
   pub laid-after : {at c end : ℕ} → Laid at c end → at < end
   laid-after {at} {c} a = omega (arith, some-byte c (editBit im at), texts-after (a .texts))
 

@@ -115,7 +115,7 @@ module _ (im : List ℕ) (at : ℕ) where
       (λ l. next 0x16 l (λ k. Row.later (NotCovered.password k))
       (λ l. next 0x17 l (λ k. Row.form (Form.trigger k)) (λ l. Row.later (NotCovered.no-code l))))))))))))))
 
-  -- ---- the texts behind the fixed bytes
+  -- ---- the texts after the fixed bytes
 
   abbrev T : Run
   T = textsFrom im (textCount im at c) (at + fixedBytes c e) 0

@@ -1,4 +1,4 @@
--- Texts one behind the other: where the grammar has them the reader finds them all, with their end and the longest, and the other way round.
+-- Texts one after the other: where the grammar has them the reader finds them all, with their end and the longest, and the other way round.
 use Prim.Native.Nat.{ℕ, zero, suc, _+_, _≤_, max}
 use mathlib.Core.Path.{_≡_, refl, ap, _∙_}
 use mathlib.Core.Bool.{true, false, false≢true}
@@ -34,7 +34,7 @@ module _ {im : List ℕ} where
   pub texts-text : {at end longest : ℕ} → Texts im 1 at end longest → Text im at end
   texts-text (Texts.more mid t ts) = rw (none-ends ts) t
 
-  -- texts end at or behind the place where they begin, and in the image
+  -- texts end at or after the place where they begin, and in the image
   pub texts-after : {n at end longest : ℕ} → Texts im n at end longest → at ≤ end
   texts-after Texts.none = omega arith
   texts-after (Texts.more mid t ts) = omega (arith, texts-after ts, t .ends)

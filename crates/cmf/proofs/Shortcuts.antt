@@ -26,7 +26,7 @@ use Rattle.cmf.proofs.Codes.{integer-bytes, integer-field}
 
 -- ---- by the tests of the definition
 
--- the component with the code of the tag that stands there
+-- the component with the code of the tag that is there
 pub component-here : (im : List ℕ) (at code : ℕ) → at < length im → byteAt im at % 32 ≡ code → componentBy im at code (byteAt im at) ≡ componentAt im at
 unfolding componentAt
 component-here im at code h e = sym (if-lt at (length im) _ _ h ∙ rw e)

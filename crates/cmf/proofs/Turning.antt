@@ -31,7 +31,7 @@ module _ (im : List ℕ) where
       let e : suc n - 1 ≡ n = omega arith in
       rw e (sym (if-true _ _ (le-room (length im) end 1 (omega arith)) ∙ if-true _ _ (le-room (length im) (end + 1) (byteAt im end) b)))
 
-  -- no length byte, or not all bytes behind it
+  -- no length byte, or not all bytes after it
   pub texts-none : (left end longest : ℕ) → 0 < left → length im ≤ end → textsFrom im left end longest ≡ runOf false end longest
   unfolding textsFrom
   texts-none zero end longest h a = absurd (omega arith)

@@ -1,6 +1,6 @@
--- Which images are well formed: section 7's figures 2 and 3 and 01's limits, as relations between places of the image.
--- Written from the papers, apart from the check: nothing here has a state, an order of checks or a refusal. What row 9 asks of a field's
--- settings is crate field's `settingsFit`, for grammar and check alike.
+-- Which images are well formed: section 7's figures 2 and 3 and 01's limits, as relations between places of
+-- the image. Written from the papers, apart from the check: nothing here has a state, an order of checks or a
+-- refusal. What row 9 asks of a field's settings is crate field's `settingsFit`, for grammar and check alike.
 use Prim.Native.Nat.{ℕ, zero, suc, _+_, _-_, _*_, _^_, _≤_, _<_}
 use mathlib.Core.Path.{_≡_}
 use mathlib.Core.List.{List, [], _∷_, _++_}
@@ -8,12 +8,14 @@ use lib.ListN.{length}
 use Rattle.laws.specs.Bytes.{byteAt, wordAt}
 use Rattle.field.specs.Sheet.{sizeOf}
 use Rattle.field.specs.declared.record.Field.{Field}
-use Rattle.cmf.specs.Limits.{longestImage, deepestTable, mostLinesOfTable, mostLines, mostFields, longestPassword, longestSheet, prologBytes}
+use Rattle.cmf.specs.Limits.{longestImage, deepestTable, mostLinesOfTable, mostLines, mostFields}
+use Rattle.cmf.specs.Limits.{longestPassword, longestSheet, prologBytes}
 use Rattle.cmf.specs.Layouts.{bit, Text, Aligned, Components}
 
 -- ---- 7.3: the prolog
 
--- 7.3, 01, Image: 'C', 'M', 'F', version 0.4, three delays that may be anything, FF FE; 01, row 2: no image is shorter than this or too long
+-- 7.3, 01, Image: 'C', 'M', 'F', version 0.4, three delays that may be anything, FF FE; 01, row 2: no image
+-- is shorter than this or too long
 pub record Prolog (im : List ℕ) : Type 0 where
   pub least : prologBytes ≤ length im
   pub most : length im ≤ longestImage
@@ -27,7 +29,7 @@ pub record Prolog (im : List ℕ) : Type 0 where
 
 -- ---- 7.4: heads of lines
 
--- 7.4: the bits of a line's tag, which stands at p
+-- 7.4: the bits of a line's tag, which is at p
 abbrev pub isFirst : List ℕ → ℕ → ℕ
 isFirst im p = bit 0 (byteAt im p)
 
@@ -43,7 +45,7 @@ hasSubmenu im p = bit 3 (byteAt im p)
 abbrev pub hasPassword : List ℕ → ℕ → ℕ
 hasPassword im p = bit 4 (byteAt im p)
 
--- figure 3, R11: behind the tag next-line-ofs:2, if the line is not the last
+-- figure 3, R11: after the tag next-line-ofs:2, if the line is not the last
 abbrev pub nextAt : ℕ → ℕ
 nextAt p = p + 1
 
@@ -81,9 +83,11 @@ pub record Digits (im : List ℕ) (at : ℕ) : Type 0 where
 -- figure 3: the password of the line at p, if it has one
 pub data Password (im : List ℕ) (p end : ℕ) : Type 0 where
   none : hasPassword im p ≡ 0 → end ≡ passwordAt im p → Password im p end
-  some : hasPassword im p ≡ 1 → Text im (passwordAt im p) end → Digits im (passwordAt im p) → Password im p end
+  some : hasPassword im p ≡ 1 → Text im (passwordAt im p) end → Digits im (passwordAt im p)
+      → Password im p end
 
--- 7.2, 7.4, ldtag:1 line-opts: the head, with its tag at p, of a line that has n lines before it in its table, the nearest of them at `before`
+-- 7.2, 7.4, ldtag:1 line-opts: the head, with its tag at p, of a line that has n lines before it in its
+-- table, the nearest of them at `before`
 pub record Head (im : List ℕ) (n before p end : ℕ) : Type 0 where
   -- figure 3: the tag and the options of two bytes are in the image
   pub inside : passwordAt im p ≤ length im
@@ -99,39 +103,48 @@ pub record Head (im : List ℕ) (n before p end : ℕ) : Type 0 where
 
 -- ---- 7.2: lines and tables
 
--- 7.2, 7.4: a line is head and components and, if it has a submenu, the table that `Submenu` describes, wherever it stands; it has the fields and the lines of both
-pub data Line (im : List ℕ) (Submenu : ℕ → List Field → ℕ → Type 0) (n before p end : ℕ) : (fs : List Field) (k : ℕ) → Type 0 where
+-- 7.2, 7.4: a line is head and components and, if it has a submenu, the table that `Submenu` describes,
+-- wherever it is; it has the fields and the lines of both
+pub data Line (im : List ℕ) (Submenu : ℕ → List Field → ℕ → Type 0) (n before p end : ℕ) : (fs : List Field)
+    (k : ℕ) → Type 0 where
   plain :
       {fs : List Field} (mid : ℕ) →
       Head im n before p mid → Components im mid end fs → hasSubmenu im p ≡ 0 →
       Line im Submenu n before p end fs 1
   submenu :
       {fs gs : List Field} {k : ℕ} (mid : ℕ) →
-      Head im n before p mid → Components im mid end fs → hasSubmenu im p ≡ 1 → Submenu (submenuTable im p) gs k →
+      Head im n before p mid → Components im mid end fs → hasSubmenu im p ≡ 1
+      → Submenu (submenuTable im p) gs k →
       Line im Submenu n before p end (fs ++ gs) (1 + k)
 
--- 7.2, menu-line { (*) menu-line }: a table's lines from the one at p on, 99 in all at most; the last has the bit of the last, and no other has it
-pub data Lines (im : List ℕ) (Submenu : ℕ → List Field → ℕ → Type 0) : (n before p : ℕ) (fs : List Field) (k : ℕ) → Type 0 where
+-- 7.2, menu-line { (*) menu-line }: a table's lines from the one at p on, 99 in all at most; the last has the
+-- bit of the last, and no other has it
+pub data Lines (im : List ℕ) (Submenu : ℕ → List Field → ℕ → Type 0) : (n before p : ℕ) (fs : List Field)
+    (k : ℕ) → Type 0 where
   last :
       {n before p k : ℕ} {fs : List Field} (end : ℕ) →
       n < mostLinesOfTable → Line im Submenu n before p end fs k → isLast im p ≡ 1 →
       Lines im Submenu n before p fs k
-  -- R6, R7: the next line stands where next-line-ofs leads, and that is the first odd offset at or after this line's end
+  -- R6, R7: the next line is where next-line-ofs leads, and that is the first odd offset at or after this
+  -- line's end
   more :
       {n before p k j : ℕ} {fs gs : List Field} (end : ℕ) →
       n < mostLinesOfTable → Line im Submenu n before p end fs k → isLast im p ≡ 0 →
       Aligned im 1 end (nextLine im p) → Lines im Submenu (n + 1) p (nextLine im p) gs j →
       Lines im Submenu n before p (fs ++ gs) (k + j)
 
--- 7.2, menu-title-string:n+1 (*) menu-line { (*) menu-line }: a title, and lines from the first odd offset at or after its end
-pub record TableOver (im : List ℕ) (Submenu : ℕ → List Field → ℕ → Type 0) (at : ℕ) (fs : List Field) (k : ℕ) : Type 0 where
+-- 7.2, menu-title-string:n+1 (*) menu-line { (*) menu-line }: a title, and lines from the first odd offset at
+-- or after its end
+pub record TableOver (im : List ℕ) (Submenu : ℕ → List Field → ℕ → Type 0) (at : ℕ) (fs : List Field)
+    (k : ℕ) : Type 0 where
   pub titleEnd : ℕ
   pub firstLine : ℕ
   pub title : Text im at titleEnd
   pub aligned : Aligned im 1 titleEnd firstLine
   pub lines : Lines im Submenu 0 0 firstLine fs k
 
--- 01, row 8: the table at a place, with at most so many tables one below the other, itself counted; its fields and its number of lines, those of its submenus among them
+-- 01, row 8: the table at a place, with at most so many tables one below the other, itself counted; its
+-- fields and its number of lines, those of its submenus among them
 unfoldable pub Table : List ℕ → ℕ → ℕ → List Field → ℕ → Type 0
 Table im zero at fs k = ⊥
 Table im (suc deep) at fs k = TableOver im (Table im deep) at fs k
@@ -162,8 +175,8 @@ pub data Apart : List Field → Type 0 where
   none : Apart []
   add : {f : Field} {fs : List Field} → Every (Disjoint f) fs → Apart fs → Apart (f ∷ fs)
 
--- 7.2, 01: the prolog, and the top table behind it; lines and fields, counted as often as they are reached, are few enough; the fields' bytes
--- lie in a sheet of so many bytes, and apart
+-- 7.2, 01: the prolog, and the top table after it; lines and fields, counted as often as they are reached,
+-- are few enough; the fields' bytes lie in a sheet of so many bytes, and apart
 pub record WellFormed (im : List ℕ) (sheet : ℕ) : Type 0 where
   pub fields : List Field
   pub lines : ℕ

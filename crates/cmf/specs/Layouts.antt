@@ -1,5 +1,5 @@
--- What stands at a place of an image by section 7: texts, padding, and the components of a line, each with the field that it is.
--- Places are offsets from the image's first byte; `end` is the place behind a structure.
+-- What is at a place of an image by section 7: texts, padding, and the components of a line, each with the
+-- field that it is. Places are offsets from the image's first byte; `end` is the place after a structure.
 use Prim.Native.Nat.{ℕ, suc, _+_, _/_, _%_, _^_, _≤_, _<_, max}
 use mathlib.Core.Bool.{true, false}
 use mathlib.Core.Path.{_≡_}
@@ -28,14 +28,15 @@ pub record Text (im : List ℕ) (at end : ℕ) : Type 0 where
   pub ends : end ≡ at + 1 + byteAt im at
   pub inside : end ≤ length im
 
--- 7.5.20, 7.5.21, R17: so many texts, one behind the other, and the length of the longest, 0 if there is none
+-- 7.5.20, 7.5.21, R17: so many texts, one after the other, and the length of the longest, 0 if there is none
 pub data Texts (im : List ℕ) : (n at end longest : ℕ) → Type 0 where
   none : {at : ℕ} → Texts im 0 at at 0
   more :
       {n at end longest : ℕ} (mid : ℕ) → Text im at mid → Texts im n mid end longest →
       Texts im (suc n) at end (max (byteAt im at) longest)
 
--- 7.2, (*), R6: the first even (parity 0) or odd (parity 1) offset at or after a place; a byte skipped is in the image and zero
+-- 7.2, (*), R6: the first even (parity 0) or odd (parity 1) offset at or after a place; a byte skipped is in
+-- the image and zero
 pub record Aligned (im : List ℕ) (parity at place : ℕ) : Type 0 where
   pub agrees : place % 2 ≡ parity
   pub after : at ≤ place
@@ -45,7 +46,8 @@ pub record Aligned (im : List ℕ) (parity at place : ℕ) : Type 0 where
 
 -- ---- 7.5: tags and fields
 
--- 7.5: bits 0 to 4 of a component's tag are its code, bit 5 says editable, bit 7 last of its line; bit 6, blink, may be either
+-- 7.5: bits 0 to 4 of a component's tag are its code, bit 5 says editable, bit 7 last of its line; bit 6,
+-- blink, may be either
 abbrev pub code : List ℕ → ℕ → ℕ
 code im at = byteAt im at % 2 ^ 5
 
@@ -55,7 +57,8 @@ editBit im at = bit 5 (byteAt im at)
 abbrev pub lastBit : List ℕ → ℕ → ℕ
 lastBit im at = bit 7 (byteAt im at)
 
--- 7.5: behind tag:1, update:1 and call-addr:2 stands var-addr:2, the field's place in the sheet; its default stands at d and has as many bytes as its value in the sheet
+-- 7.5: after tag:1, update:1 and call-addr:2 comes var-addr:2, the field's place in the sheet; its default is
+-- at d and has as many bytes as its value in the sheet
 abbrev pub fieldAt : List ℕ → ℕ → Kind → ℕ → Field
 fieldAt im at k d = record {
   image = record { 0 = at };
@@ -102,9 +105,15 @@ switchAt im at = fieldAt im at (Switch (byteAt im (at + 7))) (at + 10)
 abbrev pub optionAt : List ℕ → ℕ → Field
 optionAt im at = fieldAt im at (Option (byteAt im (at + 7)) (byteAt im (at + 8))) (at + 9)
 
--- 7.5.24, R18: a trigger has no bytes in the sheet and no var-addr; its place there is put down as 0, its default as no bytes
+-- 7.5.24, R18: a trigger has no bytes in the sheet and no var-addr; its place there is put down as 0, its
+-- default as no bytes
 abbrev pub triggerAt : List ℕ → ℕ → Field
-triggerAt im at = record { image = record { 0 = at }; sheet = record { 0 = 0 }; kind = Trigger; default = valueOf 0 [] }
+triggerAt im at = record {
+  image = record { 0 = at };
+  sheet = record { 0 = 0 };
+  kind = Trigger;
+  default = valueOf 0 [];
+}
 
 -- ---- 7.5: layouts
 
@@ -113,14 +122,16 @@ pub record FixedLayout (im : List ℕ) (at n end : ℕ) : Type 0 where
   pub ends : end ≡ at + n
   pub inside : end ≤ length im
 
--- 7.5.20, R16, R17: nswitch texts behind the default, the longest of any length; length counts the component's bytes, its texts among them
+-- 7.5.20, R16, R17: nswitch texts after the default, the longest of any length; length counts the component's
+-- bytes, its texts among them
 pub record SwitchLayout (im : List ℕ) (at end : ℕ) : Type 0 where
   pub inside : at + 14 ≤ length im
   pub longest : ℕ
   pub texts : Texts im (byteAt im (at + 7)) (at + 14) end longest
   pub counted : end ≡ at + byteAt im (at + 6)
 
--- 7.5.21, R1, R16, R17: nopts items behind the default; field-width is the longest item's length; length counts as in a switch
+-- 7.5.21, R1, R16, R17: nopts items after the default; field-width is the longest item's length; length
+-- counts as in a switch
 pub record OptionLayout (im : List ℕ) (at end : ℕ) : Type 0 where
   pub inside : at + 10 ≤ length im
   pub items : Texts im (byteAt im (at + 7)) (at + 10) end (byteAt im (at + 8))
@@ -132,12 +143,15 @@ pub record GoodSettings (f : Field) : Type 0 where
 
 -- ---- 7.5: the table of codes
 
--- the component whose tag stands at a place, with its field if it is one. 01 leaves for later: floats (0x0b, 0x0c), fcounter (0x0e),
--- variable string (0x15, editable), password (0x16). R4: section 7 gives no meaning to 0x18 to 0x1f. None of these has a row
+-- the component whose tag is at a place, with its field if it is one. 01 leaves for later: floats (0x0b,
+-- 0x0c), fcounter (0x0e), variable string (0x15, editable), password (0x16). R4: section 7 gives no meaning
+-- to 0x18 to 0x1f. None of these has a row
 pub data Component (im : List ℕ) (at end : ℕ) : List Field → Type 0 where
-  -- 7.5.1 to 7.5.11: update:1 call-addr:2 var-addr:2 default:1 (codes 0x00 to 0x04) or default:2 (0x05 to 0x0a)
+  -- 7.5.1 to 7.5.11: update:1 call-addr:2 var-addr:2 default:1 (codes 0x00 to 0x04) or default:2 (0x05 to
+  -- 0x0a)
   integer :
-      code im at ≤ 0x0a → FixedLayout im at (6 + sizeOf (integerAt im at)) end → GoodSettings (integerAt im at) →
+      code im at ≤ 0x0a → FixedLayout im at (6 + sizeOf (integerAt im at)) end
+      → GoodSettings (integerAt im at) →
       Component im at end (integerAt im at ∷ [])
   -- 7.5.14, R2: update:1 call-addr:2 var-addr:2 min:2 max:2 step:2 default:2 field-width:1
   counter :
@@ -176,7 +190,8 @@ pub data Component (im : List ℕ) (at end : ℕ) : List Field → Type 0 where
       code im at ≡ 0x17 → FixedLayout im at 4 end →
       Component im at end (triggerAt im at ∷ [])
 
--- 7.2, (*) line-comp { (*) line-comp }: each at an even offset; the last has the bit of the last, and no other has it; their fields in order
+-- 7.2, (*) line-comp { (*) line-comp }: each at an even offset; the last has the bit of the last, and no
+-- other has it; their fields in order
 pub data Components (im : List ℕ) : (at end : ℕ) (fs : List Field) → Type 0 where
   last :
       {at end : ℕ} {fs : List Field} (p : ℕ) →

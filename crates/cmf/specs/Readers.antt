@@ -1,7 +1,8 @@
--- What a reader finds at a place, whatever the bytes: section 7's layouts in the order in which they are read.
--- A refusal of 6 says that not all of the thing is in the image, 7 that section 7 does not give it or 01 leaves it for later, 9 (of a component)
--- that its settings are bad. A head with a bad password is no refusal yet, since 8 comes between: it is not `good`.
--- What is refused with 6 or 7 reads as the last of its list and leads nowhere.
+-- What a reader finds at a place, whatever the bytes: section 7's layouts in the order in which they are
+-- read. A refusal of 6 says that not all of the thing is in the image, 7 that section 7 does not give it or
+-- 01 leaves it for later, 9 (of a component) that its settings are bad. A head with a bad password is no
+-- refusal yet, since 8 comes between: it is not `good`. What is refused with 6 or 7 reads as the last of its
+-- list and leads nowhere.
 use Prim.Native.Nat.{ℕ, zero, suc, _+_, _-_, _*_, _/_, _%_, max}
 use mathlib.Core.Bool.{Bool, true, false}
 use mathlib.Core.List.{List, []}
@@ -50,7 +51,8 @@ unfoldable pub textsFrom : List ℕ → ℕ → ℕ → ℕ → Run
 textsFrom im zero at m = runOf true at m
 textsFrom im (suc n) at m =
     if room (length im) at 1 then
-    (if room (length im) (at + 1) (byteAt im at) then textsFrom im n (at + 1 + byteAt im at) (max m (byteAt im at)) else runOf false at m)
+    (if room (length im) (at + 1) (byteAt im at)
+    then textsFrom im n (at + 1 + byteAt im at) (max m (byteAt im at)) else runOf false at m)
     else runOf false at m
 
 -- the n bytes from a place on are ASCII digits
@@ -68,7 +70,7 @@ unfoldable pub itemFrom : List ℕ → ℕ → ℕ → ℕ
 itemFrom im zero at = at
 itemFrom im (suc k) at = if at <? length im then itemFrom im k (at + 1 + byteAt im at) else at
 
--- where the text of an option's item stands: its texts begin behind ten bytes (7.5.21 with R1's var-addr)
+-- where the text of an option's item is: its texts begin after ten bytes (7.5.21 with R1's var-addr)
 abbrev pub itemPlace : List ℕ → ℕ → ℕ → ℕ
 itemPlace im place item = itemFrom im item (place + 10)
 
@@ -81,9 +83,10 @@ textBytes im at = if room (length im) at (1 + byteAt im at) then partAt (at + 1)
 abbrev pub titleRefused : ℕ → Title
 titleRefused at = record { refusal = 6; end = at; line = at }
 
--- where it ends, and where the first line stands
+-- where it ends, and where the first line is
 unfoldable pub titleBy : ℕ → Run → Title
-titleBy at t = if t .fits then record { refusal = 0; end = t .end; line = oddFrom (t .end) } else titleRefused at
+titleBy at t = if t .fits then record { refusal = 0; end = t .end; line = oddFrom (t .end) }
+    else titleRefused at
 
 unfoldable pub titleAt : List ℕ → ℕ → Title
 titleAt im at = titleBy at (textsFrom im 1 at 0)
@@ -106,7 +109,8 @@ headRefused p k = record {
   component = p;
 }
 
--- figure 3: behind the tag next-line-ofs unless last (2), prev-line-ofs unless first (1), an enable address if dynamic (4), smenu-abs-ofs if there is a submenu (8)
+-- figure 3: after the tag next-line-ofs unless last (2), prev-line-ofs unless first (1), an enable address if
+-- dynamic (4), smenu-abs-ofs if there is a submenu (8)
 abbrev pub backPlace : ℕ → ℕ → ℕ
 backPlace p tag = p + 1 + 2 * (1 - tagBit 2 tag)
 
@@ -141,14 +145,16 @@ headRead im p tag end = record {
 unfoldable pub headBy : List ℕ → ℕ → ℕ → Run → Head
 headBy im p tag t =
     if optionsEnd p tag ≤? length im then
-    (if t .fits then (if tagBit 16 tag ≤? tagBit 8 tag then headRead im p tag (t .end) else headRefused p 7) else headRefused p 6)
+    (if t .fits then (if tagBit 16 tag ≤? tagBit 8 tag then headRead im p tag (t .end) else headRefused p 7)
+    else headRefused p 6)
     else headRefused p 6
 
 -- R9: a tag with a bit above 4 is 7 at once
 unfoldable pub headAt : List ℕ → ℕ → Head
 headAt im p =
     if p <? length im then
-    (if byteAt im p <? 32 then headBy im p (byteAt im p) (textsFrom im (passwords (byteAt im p)) (optionsEnd p (byteAt im p)) 0) else headRefused p 7)
+    (if byteAt im p <? 32 then headBy im p (byteAt im p)
+    (textsFrom im (passwords (byteAt im p)) (optionsEnd p (byteAt im p)) 0) else headRefused p 7)
     else headRefused p 6
 
 -- ---- 7.5: a component
@@ -167,7 +173,8 @@ fixedBytes code edit =
     else if code =? 0x12 then 9  -- 7.5.19: day:1 month:1 year:1
     else if code =? 0x13 then 14  -- 7.5.20: length:1 nswitch:1 on-char:1 off-char:1 default:4
     else if code =? 0x14 then 10  -- 7.5.21, R1: length:1 nopts:1 field-width:1 default:1
-    else if code =? 0x15 then (if edit =? 1 then 6 else 1)  -- 7.5.22: update:1 call-addr:2 var-addr:2, or nothing
+    -- 7.5.22: update:1 call-addr:2 var-addr:2, or nothing
+    else if code =? 0x15 then (if edit =? 1 then 6 else 1)
     else 4  -- 7.5.23, 7.5.24: update:1 call-addr:2
 
 -- R17: a switch has nswitch texts, an option nopts; a string and a password have one
@@ -178,7 +185,8 @@ textCount im at code =
     else if code ≤? 0x16 then 1
     else 0
 
--- whether section 7 gives the component that stands there and 01 does not leave it for later; R16: length and field-width agree with the texts
+-- whether section 7 gives the component that is there and 01 does not leave it for later; R16: length and
+-- field-width agree with the texts
 unfoldable pub given : List ℕ → ℕ → ℕ → ℕ → Run → Bool
 given im at code edit t =
     if code ≤? 0x0a then true
@@ -212,7 +220,7 @@ kindAt im at code =
     else if code =? 0x14 then Option (byteAt im (at + 7)) (byteAt im (at + 8))
     else Trigger
 
--- where the default stands
+-- where the default is
 unfoldable pub defaultPlace : ℕ → ℕ → ℕ
 defaultPlace at code =
     if code =? 0x0d then at + 12
@@ -220,7 +228,7 @@ defaultPlace at code =
     else if code =? 0x14 then at + 9
     else at + 6
 
--- 7.5: var-addr stands behind update and call-addr; R18: a trigger has none
+-- 7.5: var-addr comes after update and call-addr; R18: a trigger has none
 unfoldable pub sheetPlaceAt : List ℕ → ℕ → ℕ → ℕ
 sheetPlaceAt im at code = if code <? 0x15 then wordAt im (at + 4) else 0
 
@@ -258,13 +266,16 @@ componentRead im at code tag end = record {
 unfoldable pub laidOut : List ℕ → ℕ → ℕ → ℕ → Run → Component
 laidOut im at code tag t =
     if room (length im) at (fixedBytes code (tagBit 32 tag)) then
-    (if t .fits then (if given im at code (tagBit 32 tag) t then componentRead im at code tag (t .end) else componentRefused im at 7) else componentRefused im at 6)
+    (if t .fits then (if given im at code (tagBit 32 tag) t then componentRead im at code tag (t .end)
+    else componentRefused im at 7) else componentRefused im at 6)
     else componentRefused im at 6
 
--- R14: a form left for later is 6 if section 7's layout of it is not all there, else 7; a code that is not given is 7 at its tag
+-- R14: a form left for later is 6 if section 7's layout of it is not all there, else 7; a code that is not
+-- given is 7 at its tag
 unfoldable pub componentBy : List ℕ → ℕ → ℕ → ℕ → Component
 componentBy im at code tag =
-    if code <? 0x18 then laidOut im at code tag (textsFrom im (textCount im at code) (at + fixedBytes code (tagBit 32 tag)) 0)
+    if code <? 0x18 then laidOut im at code tag
+    (textsFrom im (textCount im at code) (at + fixedBytes code (tagBit 32 tag)) 0)
     else componentRefused im at 7
 
 unfoldable pub componentAt : List ℕ → ℕ → Component

@@ -9,7 +9,9 @@ ghost use Rattle.laws.specs.Bytes.{wordAt, room};
 ghost use Rattle.field.specs.Cells.{biased};
 ghost use Rattle.field.specs.Settings.{settingsFit};
 ghost use Rattle.field.specs.Values.{valueOf, valueAt};
-ghost use Rattle.cmf.specs.Readers.{tagBit, fixedBytes, textCount, given, counterOf, kindAt, sheetPlaceAt, fieldBy, componentRefused, componentRead, laidOut, componentBy, componentAt};
+ghost use Rattle.cmf.specs.Readers.{tagBit, fixedBytes, textCount, given, counterOf, kindAt};
+ghost use Rattle.cmf.specs.Readers.{sheetPlaceAt, fieldBy, componentRefused, componentRead, laidOut};
+ghost use Rattle.cmf.specs.Readers.{componentBy, componentAt};
 use crate::image::Image;
 use crate::image::word_in;
 use crate::text::ITEMS;
@@ -28,7 +30,8 @@ use laws::byte_at;
 use laws::room;
 use laws::word_at;
 
-// refusal: 0, or 6, 7 or 9. holds: it is a field, and no constant string. next: the place of the next component.
+// refusal: 0, or 6, 7 or 9. holds: it is a field, and no constant string. next: the place of the next
+// component.
 pub struct Component {
     pub refusal: u8,
     pub last: bool,
@@ -155,7 +158,12 @@ fn sheet_place(image: &[u8], at: usize, code: u8) -> u16
 
 // A trigger has no bytes; it stands for the field where there is none.
 fn trigger(at: usize, sheet: usize) -> Field
-    ensures { λ r. ⌜ r ≡ record { image = record { 0 = at }; sheet = record { 0 = sheet }; kind = Kind.Trigger; default = valueOf 0 [] } ⌝ }
+    ensures { λ r. ⌜ r ≡ record {
+      image = record { 0 = at };
+      sheet = record { 0 = sheet };
+      kind = Kind.Trigger;
+      default = valueOf 0 [];
+    } ⌝ }
 {
     Field {
         image: ImagePlace(at),
@@ -168,10 +176,15 @@ fn trigger(at: usize, sheet: usize) -> Field
     }
 }
 
-// A field of this kind whose default is in so many bytes, so far behind its tag.
+// A field of this kind whose default is in so many bytes, so far after its tag.
 fn field_of(image: &[u8], at: usize, kind: Kind, behind: usize, count: u8) -> Field
     requires { ⌜ (at < length (now image)) × (behind ≤ 12) ⌝ }
-    ensures { λ r. ⌜ r ≡ record { image = record { 0 = at }; sheet = record { 0 = wordAt (now (image .entry)) (at + 4) }; kind = kind; default = valueAt (at + behind) count (now (image .entry)) } ⌝ }
+    ensures { λ r. ⌜ r ≡ record {
+      image = record { 0 = at };
+      sheet = record { 0 = wordAt (now (image .entry)) (at + 4) };
+      kind = kind;
+      default = valueAt (at + behind) count (now (image .entry));
+    } ⌝ }
 {
     Field {
         image: ImagePlace(at),
@@ -265,9 +278,11 @@ fn component_read(image: &[u8], at: usize, code: u8, tag: u8, end: usize) -> Com
     }
 }
 
-// The component, no option, whose fixed bytes are all there, with these texts behind them.
+// The component, no option, whose fixed bytes are all there, with these texts after them.
 fn laid_out(image: &[u8], at: usize, code: u8, tag: u8, t: Run) -> Component
-    requires { ⌜ (at < length (now image)) × (code ≡ 0x14 → ⊥) × (room (length (now image)) at (fixedBytes code (tagBit 32 tag)) ≡ true) × (t .fits ≡ true → t .end ≤ length (now image)) ⌝ }
+    requires { ⌜ (at < length (now image)) × (code ≡ 0x14 → ⊥)
+        × (room (length (now image)) at (fixedBytes code (tagBit 32 tag)) ≡ true)
+        × (t .fits ≡ true → t .end ≤ length (now image)) ⌝ }
     ensures { λ r. ⌜ r ≡ laidOut (now (image .entry)) at code tag t ⌝ }
 {
     if t.fits {
@@ -337,7 +352,8 @@ fn option_field(image: &[u8], at: usize) -> Field
 // Whether an option's default is one of its items.
 fn option_fits(image: &[u8], at: usize) -> bool
     requires { ⌜ at + 10 ≤ length (now image) ⌝ }
-    ensures { λ r. ⌜ r ≡ settingsFit (kindAt (now (image .entry)) at 0x14) (fieldBy (now (image .entry)) at 0x14 .default) ⌝ }
+    ensures { λ r. ⌜ r ≡ settingsFit (kindAt (now (image .entry)) at 0x14)
+        (fieldBy (now (image .entry)) at 0x14 .default) ⌝ }
 {
     image[at + 9] < image[at + 7]
 }
@@ -377,7 +393,7 @@ fn option_by(image: &[u8], at: usize, tag: u8) -> Component
     Component::refused(image, at, 6)
 }
 
-// The component whose tag stands at a place.
+// The component whose tag is at a place.
 pub fn read_component(image: &[u8], at: usize) -> Component
     ensures { λ r. ⌜ r ≡ componentAt (now (image .entry)) at ⌝ }
 {

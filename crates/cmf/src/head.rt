@@ -14,9 +14,9 @@ use laws::byte_at;
 use laws::room;
 use laws::word_at;
 
-// refusal: 0, or 6 or 7. typeable: its password, if it has one, is of 1 to 8 digits. first, last: of its table. back: the distance from the line before.
-// next, table, password, component: the places of the next line, of the submenu's table, of the password, of the first component;
-// without meaning if it has none.
+// refusal: 0, or 6 or 7. typeable: its password, if it has one, is of 1 to 8 digits. first, last: of its
+// table. back: the distance from the line before. next, table, password, component: the places of the next
+// line, of the submenu's table, of the password, of the first component; without meaning if it has none.
 pub struct Head {
     pub refusal: u8,
     pub typeable: bool,
@@ -57,7 +57,8 @@ impl Head {
     }
 }
 
-// Where a line's options are, counted from its tag: the pointer back, the submenu's offset, and where the options end.
+// Where a line's options are, counted from its tag: the pointer back, the submenu's offset, and where the
+// options end.
 pub struct Options {
     pub back: usize,
     pub submenu: usize,
@@ -121,7 +122,8 @@ fn head_read(image: &[u8], p: usize, tag: u8, end: usize) -> Head
 // The head with this tag.
 fn head_by(image: &[u8], p: usize, tag: u8) -> Head
     requires { ⌜ p < length (now image) ⌝ }
-    ensures { λ r. ⌜ r ≡ headBy (now (image .entry)) p tag (textsFrom (now (image .entry)) (passwords tag) (optionsEnd p tag) 0) ⌝ }
+    ensures { λ r. ⌜ r ≡ headBy (now (image .entry)) p tag
+        (textsFrom (now (image .entry)) (passwords tag) (optionsEnd p tag) 0) ⌝ }
 {
     let t = tag as usize;
     let options = p + Options::of_tag(tag).end;
@@ -176,7 +178,7 @@ fn short_head(image: &[u8], p: usize, tag: u8) -> Head
     }
 }
 
-// The head of the line whose tag stands at a place.
+// The head of the line whose tag is at a place.
 pub fn read_head(image: &[u8], p: usize) -> Head
     ensures { λ r. ⌜ r ≡ headAt (now (image .entry)) p ⌝ }
 {

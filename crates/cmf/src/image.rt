@@ -6,8 +6,8 @@ ghost use Rattle.laws.specs.Bytes.{wordAt};
 ghost use Rattle.cmf.specs.Readers.{imageOf};
 use laws::byte_at;
 
-// The prolog's delays that a session asks for, in seconds, 0 for never: delay-to-top, and delay-password, which ends
-// a password entry.
+// The prolog's delays that a session asks for, in seconds, 0 for never: delay-to-top, and delay-password,
+// which ends a password entry.
 pub struct Delays {
     pub top: u8,
     pub password: u8,

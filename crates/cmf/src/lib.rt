@@ -1,5 +1,5 @@
-// What stands at a place of a CMF 0.4 image: the prolog, a table's title, a line's head, a component, an option's item.
-// Every reader is total: it answers whatever the bytes and the place.
+// What is at a place of a CMF 0.4 image: the prolog, a table's title, a line's head, a component, an option's
+// item. Every reader is total: it answers whatever the bytes and the place.
 pub mod component;
 pub mod head;
 pub mod image;

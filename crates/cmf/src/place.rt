@@ -6,7 +6,8 @@ ghost use lib.ListN.{length};
 ghost use Rattle.laws.specs.Choice.{_=?_};
 ghost use Rattle.laws.specs.Bytes.{wordAt};
 ghost use Rattle.cmf.specs.Readers.{tagBit, optionsEnd, textsFrom, headAt};
-ghost use Rattle.cmf.specs.Places.{lineAt, lineCount, lineFound, lineFromHere, firstEditable, nextEditable};
+ghost use Rattle.cmf.specs.Places.{lineAt, lineCount, lineFound, lineFromHere, firstEditable};
+ghost use Rattle.cmf.specs.Places.{nextEditable};
 use crate::component::read_component;
 use crate::head::Head;
 use crate::head::Options;
@@ -35,7 +36,8 @@ impl Step {
     // What the tag and the two bytes after it say.
     fn read(image: &[u8], p: usize, tag: u8) -> Self
         requires { ⌜ p + 9 ≤ length (now image) ⌝ }
-        ensures { λ r. ⌜ (r .last ≡ (tagBit 2 tag =? 1)) × (r .next ≡ p + wordAt (now (image .entry)) (p + 1)) ⌝ }
+        ensures { λ r. ⌜ (r .last ≡ (tagBit 2 tag =? 1))
+            × (r .next ≡ p + wordAt (now (image .entry)) (p + 1)) ⌝ }
     {
         Step {
             last: tag / 2 % 2 == 1,
@@ -47,7 +49,8 @@ impl Step {
 // Whether a tag asks for a submenu and its password, and the password is all there.
 fn has_password(image: &[u8], p: usize, tag: u8) -> bool
     requires { ⌜ p + 9 ≤ length (now image) ⌝ }
-    ensures { λ r. ⌜ (r ≡ true → (24 ≤ tag) × (tag < 32) × (textsFrom (now (image .entry)) 1 (optionsEnd p tag) 0 .fits ≡ true)) ⌝ }
+    ensures { λ r. ⌜ (r ≡ true → (24 ≤ tag) × (tag < 32)
+        × (textsFrom (now (image .entry)) 1 (optionsEnd p tag) 0 .fits ≡ true)) ⌝ }
 {
     if tag < 24 {
         return false;
@@ -61,7 +64,8 @@ fn has_password(image: &[u8], p: usize, tag: u8) -> bool
 
 // Where the options have room, and a password too, no head needs to be read.
 fn step_at(image: &[u8], p: usize) -> Step
-    ensures { λ r. ⌜ (r .last ≡ headAt (now (image .entry)) p .last) × (r .next ≡ headAt (now (image .entry)) p .next) ⌝ }
+    ensures { λ r. ⌜ (r .last ≡ headAt (now (image .entry)) p .last)
+        × (r .next ≡ headAt (now (image .entry)) p .next) ⌝ }
 {
     let whole = room(image, p, Head::MOST);
     if whole {

@@ -1,7 +1,8 @@
-// Texts: a length byte and so many bytes; several of them one behind the other.
+// Texts: a length byte and so many bytes; several of them one after the other.
 ghost use mathlib.Core.Path.{_≡_};
 ghost use mathlib.Core.Bool.{false};
-ghost use Rattle.cmf.specs.Readers.{runOf, textsFrom, allDigits, passwordFits, itemFrom, itemPlace, textBytes};
+ghost use Rattle.cmf.specs.Readers.{runOf, textsFrom, allDigits, passwordFits, itemFrom, itemPlace};
+ghost use Rattle.cmf.specs.Readers.{textBytes};
 ghost use Prim.Native.Nat.{_+_, _<_, max};
 ghost use lib.ListN.{length};
 ghost use Rattle.laws.specs.Choice.{if_then_else_, _<?_};
@@ -121,7 +122,8 @@ fn item_from(image: &[u8], k: usize, at: usize) -> usize
 
 // Where an item of the option at a place begins, its length byte first; 0 for a place beyond the image.
 pub fn item_place(image: &[u8], place: usize, item: usize) -> usize
-    ensures { λ r. ⌜ r ≡ if place <? length (now (image .entry)) then itemPlace (now (image .entry)) place item else 0 ⌝ }
+    ensures { λ r. ⌜ r ≡ if place <? length (now (image .entry))
+        then itemPlace (now (image .entry)) place item else 0 ⌝ }
 {
     if place < image.len() {
         return item_from(image, item, place + ITEMS);
@@ -153,7 +155,7 @@ pub fn item_bytes<'a>(image: &'a [u8], place: usize, item: usize) -> &'a [u8]
     &image[0..0]
 }
 
-// The bytes of the constant string whose tag stands at a place.
+// The bytes of the constant string whose tag is at a place.
 pub fn string_bytes<'a>(image: &'a [u8], place: usize) -> &'a [u8]
     ensures { λ r. ⌜ now r ≡ textBytes (now (image .entry)) (place + 1) ⌝ }
 {

@@ -3,7 +3,7 @@ ghost use mathlib.Core.Path.{_≡_};
 ghost use Rattle.cmf.specs.Readers.{titleAt};
 use crate::text::read_texts;
 
-// Where the title ends, and where the table's first line stands; refusal 6: not all of it is in the image.
+// Where the title ends, and where the table's first line is; refusal 6: not all of it is in the image.
 pub struct Title {
     pub refusal: u8,
     pub end: usize,

@@ -73,7 +73,7 @@ pub half-pos : (f : Format) → 0 < halfOf f
 unfolding halfOf
 half-pos f = if-min (f .signed) (omega (arith, limit-ge f)) (omega (arith, limit-ge f))
 
--- without a sign no number stands below 0
+-- without a sign no number is below 0
 half-plain : (f : Format) → signsOf f ≡ 0 → halfOf f ≡ limitOf f
 unfolding halfOf signsOf if_then_else_
 half-plain f e = go (f .signed) e

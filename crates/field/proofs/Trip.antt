@@ -82,7 +82,7 @@ module _ (n : Numeral) (s : Sound n) (x : ℕ) (e : spans n x ≡ true) where
       by-range n x e (λ h. rw (distance-up n x h) (omega (arith, s .above)))
       (λ h l r. rw (distance-down n x h) (omega (arith, s .below, s .apart)))
 
-  -- the digits show how far it stands from 0
+  -- the digits show how far it is from 0
   shown-back : shownBy n (fit 0 32 (inDigits n x)) ≡ distance n x
   unfolding shownBy inDigits
   shown-back =

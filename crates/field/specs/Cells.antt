@@ -12,7 +12,8 @@ use Rattle.field.specs.Profiles.{profileOf, cellOf}
 use Rattle.field.specs.Values.{numberOf, valueFrom}
 use Rattle.field.specs.declared.numeral.Numeral.{Numeral}
 use Rattle.field.specs.declared.kind.Kind.{Kind}
-use Rattle.field.specs.declared.kind.Kind.the-variants.{Integer, Counter, Time, Date, Switch, Option, Trigger}
+use Rattle.field.specs.declared.kind.Kind.the-variants.{Integer, Counter, Time, Date, Switch, Option}
+use Rattle.field.specs.declared.kind.Kind.the-variants.{Trigger}
 use Rattle.field.specs.declared.profile.Cell.{Cell}
 use Rattle.field.specs.declared.work.Work.{Work}
 use Rattle.field.specs.declared.value.Value.{Value}
@@ -23,7 +24,7 @@ use Rattle.field.specs.declared.value.Value.{Value}
 unfoldable pub spans : Numeral → ℕ → Bool
 spans n x = if x ≤? n .above then true else ((n .limit - n .below) ≤? x) and (x <? n .limit)
 
--- how far a number in range stands from 0
+-- how far a number in range is from 0
 unfoldable pub distance : Numeral → ℕ → ℕ
 distance n x = if x ≤? n .above then x else n .limit - x
 
@@ -33,7 +34,8 @@ signOf n x = if x ≤? n .above then 1 else 0
 
 -- the sign if there is one, then the digits
 unfoldable pub inDigits : Numeral → ℕ → List ℕ
-inDigits n x = (if n .signs =? 0 then [] else signOf n x ∷ []) ++ digitsOf (n .base) (n .digits) (distance n x)
+inDigits n x = (if n .signs =? 0 then [] else signOf n x ∷ [])
+    ++ digitsOf (n .base) (n .digits) (distance n x)
 
 -- what the digit cells show, and whether the sign cell shows '-'
 unfoldable pub shownBy : Numeral → List ℕ → ℕ
@@ -76,7 +78,8 @@ storedIn (Switch n) cs = ofDigits (bitsOf n) cs
 storedIn (Option n w) cs = getD cs 0 0
 storedIn Trigger cs = 0
 
--- an integer's or a switch's number within the numeral's range; the other kinds are settled by the ends of their cells
+-- an integer's or a switch's number within the numeral's range; the other kinds are settled by the ends of
+-- their cells
 unfoldable pub inSpan : Kind → ℕ → Bool
 inSpan (Integer f) x = spans (numeralOf f) x
 inSpan (Counter s) x = true
@@ -109,7 +112,8 @@ legalTo k cs (suc n) = legalTo k cs n and within (cellOf k n) (getD cs n 0)
 unfoldable pub legal : Kind → List ℕ → Bool
 legal k cs = legalTo k cs (profileOf k .cells)
 
--- 01, Fields: a number that the field's bytes can hold is in range if its numeral spans it (integers, switches) and its cells are within their ends (the other kinds)
+-- 01, Fields: a number that the field's bytes can hold is in range if its numeral spans it (integers,
+-- switches) and its cells are within their ends (the other kinds)
 unfoldable pub inRange : Kind → ℕ → Bool
 inRange k x = inSpan k x and legal k (cellsOf k x)
 

@@ -28,7 +28,8 @@ formatOf code =
 unfoldable pub signsOf : Format → ℕ
 signsOf f = if f .signed then 1 else 0
 
--- digit cells: no mask has more than five, and a format that states more is cut, so that every format is sound
+-- digit cells: no mask has more than five, and a format that states more is cut, so that every format is
+-- sound
 unfoldable pub digitsIn : Format → ℕ
 digitsIn f = if f .digits <? 5 then f .digits else 5
 
@@ -62,9 +63,17 @@ numeralOf f = record {
 abbrev pub maxBits : ℕ
 maxBits = 32
 
--- 01, Fields: a switch has a cell for each bit that it states; one that states more is refused (settings), and cut here so that every switch is sound
+-- 01, Fields: a switch has a cell for each bit that it states; one that states more is refused (settings),
+-- and cut here so that every switch is sound
 unfoldable pub bitsIn : ℕ → ℕ
 bitsIn n = if n <? maxBits then n else maxBits
 
 abbrev pub bitsOf : ℕ → Numeral
-bitsOf n = record { signs = 0; digits = bitsIn n; base = 2; above = 2 ^ bitsIn n - 1; below = 0; limit = 4294967296 }
+bitsOf n = record {
+  signs = 0;
+  digits = bitsIn n;
+  base = 2;
+  above = 2 ^ bitsIn n - 1;
+  below = 0;
+  limit = 4294967296;
+}

@@ -4,12 +4,14 @@ use mathlib.Core.Bool.{true, false}
 use Rattle.laws.specs.Choice.{if_then_else_, _=?_, _<?_}
 use Rattle.field.specs.Formats.{signsOf, digitsIn, baseOf, bitsIn}
 use Rattle.field.specs.declared.kind.Kind.{Kind}
-use Rattle.field.specs.declared.kind.Kind.the-variants.{Integer, Counter, Time, Date, Switch, Option, Trigger}
+use Rattle.field.specs.declared.kind.Kind.the-variants.{Integer, Counter, Time, Date, Switch, Option}
+use Rattle.field.specs.declared.kind.Kind.the-variants.{Trigger}
 use Rattle.field.specs.declared.profile.Profile.{Profile}
 use Rattle.field.specs.declared.profile.Cell.{Cell}
 
--- A cell here is what UP and DOWN change: a sign, a digit, a bit, a part of a time or date, or the whole of a counter or option.
--- (The cells of the display are the picture's.) A kind's row has its cells, its bytes in the sheet, and what keys do in a visit.
+-- A cell here is what UP and DOWN change: a sign, a digit, a bit, a part of a time or date, or the whole of a
+-- counter or option. (The cells of the display are the picture's.) A kind's row has its cells, its bytes in
+-- the sheet, and what keys do in a visit.
 
 -- LEFT and RIGHT move between cells
 abbrev pub moving : ℕ → ℕ → Profile
@@ -58,7 +60,8 @@ unfoldable pub cellOf : Kind → ℕ → Cell
 cellOf (Integer f) i = if i <? signsOf f then flag else digit (baseOf f)
 cellOf (Counter s) i = ends (s .min) (s .max) (s .step)
 cellOf (Time long) i = if i =? 0 then ends 0 23 1 else ends 0 59 1
-cellOf (Date long) i = if i =? 0 then ends 0 (if long then 9999 else 99) 1 else if i =? 1 then ends 1 12 1 else ends 1 31 1
+cellOf (Date long) i = if i =? 0 then ends 0 (if long then 9999 else 99) 1 else if i =? 1 then ends 1 12 1
+    else ends 1 31 1
 cellOf (Switch n) i = flag
 cellOf (Option n w) i = ends 0 (n - 1) 1
 cellOf Trigger i = ends 0 0 1

@@ -6,13 +6,15 @@ use Rattle.field.specs.Formats.{maxBits}
 use Rattle.field.specs.Values.{numberOf}
 use Rattle.field.specs.Cells.{inRange}
 use Rattle.field.specs.declared.kind.Kind.{Kind}
-use Rattle.field.specs.declared.kind.Kind.the-variants.{Integer, Counter, Time, Date, Switch, Option, Trigger}
+use Rattle.field.specs.declared.kind.Kind.the-variants.{Integer, Counter, Time, Date, Switch, Option}
+use Rattle.field.specs.declared.kind.Kind.the-variants.{Trigger}
 use Rattle.field.specs.declared.kind.CounterSettings.{CounterSettings}
 use Rattle.field.specs.declared.value.Value.{Value}
 
 -- how many decimal digits a number of at most five digits has
 unfoldable pub digitCount : ℕ → ℕ
-digitCount x = if x <? 10 then 1 else if x <? 100 then 2 else if x <? 1000 then 3 else if x <? 10000 then 4 else 5
+digitCount x = if x <? 10 then 1 else if x <? 100 then 2 else if x <? 1000 then 3 else if x <? 10000 then 4
+    else 5
 
 -- the cells of a counter's biased number; 01, Fields: '-' only below 0
 unfoldable pub countedCells : ℕ → ℕ
@@ -26,7 +28,8 @@ stepFits s = (1 ≤? s .step) and (s .step <? 32768)
 unfoldable pub widthFits : CounterSettings → Bool
 widthFits s = (countedCells (s .min) ≤? s .width) and (countedCells (s .max) ≤? s .width)
 
--- 01, Fields: a switch has from one bit to as many as it stores; an option has 1 to 255 items, and its count is one byte
+-- 01, Fields: a switch has from one bit to as many as it stores; an option has 1 to 255 items, and its count
+-- is one byte
 unfoldable pub kindFits : Kind → Bool
 kindFits (Integer f) = true
 kindFits (Counter s) = stepFits s and widthFits s

@@ -1,4 +1,5 @@
--- A field's own bytes in the sheet (01, The four calls): written by Open, read where a visit begins, written where it is finished.
+-- A field's own bytes in the sheet (01, The four calls): written by Open, read where a visit begins, written
+-- where it is finished.
 use Prim.Native.Nat.{ℕ}
 use mathlib.Core.List.{List}
 use Rattle.laws.specs.Parts.{partAt, putAt}
@@ -19,7 +20,8 @@ ownBytes f s = partAt (f .sheet .0) (sizeOf f) s
 unfoldable pub defaultWritten : Field → List ℕ → List ℕ
 defaultWritten f s = putAt (f .sheet .0) (bytesOf (f .default)) s
 
--- a visit begins with a copy of the field's value, or of its default where that is out of range; a trigger has none
+-- a visit begins with a copy of the field's value, or of its default where that is out of range; a trigger
+-- has none
 unfoldable pub begun : Field → List ℕ → Work
 begun f s = started (f .kind) (valueOf (sizeOf f) (ownBytes f s)) (f .default)
 

@@ -1,3 +1,4 @@
+-- Nobody has to believe this file: it serves the contracts of functions that no other crate calls.
 -- What holds of the numerals that there are: the bounds within which numbers in digits are computed.
 use Prim.Native.Nat.{_+_, _-_, _^_, _≤_, _<_}
 use mathlib.Core.Path.{_≡_}

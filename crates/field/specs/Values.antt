@@ -19,8 +19,9 @@ valueOf n bs = record { bytes = fit 0 4 bs; count = n }
 abbrev pub valueAt : ℕ → ℕ → List ℕ → Value
 valueAt at n s = valueOf n (partAt at n s)
 
--- a field's bytes as one number, low byte first. 01, Image: so are the two-byte numbers: integers, counters, a date's year.
--- For the rest it is our packing: a time is hours + 256 minutes + 65,536 seconds, a date day + 256 month + 65,536 year, a switch its bits
+-- a field's bytes as one number, low byte first. 01, Image: so are the two-byte numbers: integers, counters,
+-- a date's year. For the rest it is our packing: a time is hours + 256 minutes + 65,536 seconds, a date day +
+-- 256 month + 65,536 year, a switch its bits
 unfoldable pub numberOf : Value → ℕ
 numberOf v = fromLow (bytesOf v)
 

@@ -5,7 +5,8 @@ ghost use Rattle.field.specs.Formats.{formatOf};
 // A place in the image, counted from 0.
 pub struct ImagePlace(pub usize);
 
-// A place in the sheet, counted from 0. The sheet is the paper's term for the bytes that hold a candidate's answers.
+// A place in the sheet, counted from 0. The sheet is the paper's term for the bytes that hold a candidate's
+// answers.
 pub struct SheetPlace(pub usize);
 
 // An integer's cells: two bytes or one, with a sign or without, to the base 16 or 10, and how many digits.
@@ -16,7 +17,8 @@ pub struct Format {
     pub digits: u8,
 }
 
-// A counter: min and max with 32,768 added, the step as it is stored (32,768 and above are negative), and the width in display cells.
+// A counter: min and max with 32,768 added, the step as it is stored (32,768 and above are negative), and the
+// width in display cells.
 pub struct CounterSettings {
     pub min: u16,
     pub max: u16,
@@ -24,8 +26,8 @@ pub struct CounterSettings {
     pub width: u8,
 }
 
-// The flag of a time or date: with seconds, or with four digits for the year. A switch has a count of bits, an option its count of items and the
-// length of the longest.
+// The flag of a time or date: with seconds, or with four digits for the year. A switch has a count of bits,
+// an option its count of items and the length of the longest.
 pub enum Kind {
     Integer(Format),
     Counter(CounterSettings),

@@ -1,4 +1,5 @@
-// What a field of a menu image is, without the image: kinds and settings, ranges, the cells of a visit, bytes in the sheet.
+// What a field of a menu image is, without the image: kinds and settings, ranges, the cells of a visit, bytes
+// in the sheet.
 pub mod kind;
 pub mod numeral;
 pub mod profile;

@@ -6,13 +6,15 @@ ghost use Rattle.laws.specs.Digits.{digitsOf, numberFrom};
 ghost use Rattle.laws.specs.Overwrite.{over};
 ghost use Rattle.field.specs.Formats.{formatOf, signsOf, digitsIn, baseOf, limitOf, halfOf, topOf};
 ghost use Rattle.field.specs.Formats.{numeralOf, bitsIn, bitsOf};
-ghost use Rattle.field.specs.Cells.{spans, distance, signOf, inDigits, shownBy, minus, storable, ofDigits, workOf};
+ghost use Rattle.field.specs.Cells.{spans, distance, signOf, inDigits, shownBy, minus, storable};
+ghost use Rattle.field.specs.Cells.{ofDigits, workOf};
 ghost use Rattle.field.specs.Sound.{Sound};
 use crate::kind::Format;
 use crate::kind::Kind;
 use crate::work::Work;
 
-// Sign cells, digit cells, base; the range, from `below` below 0 to `above` above it; how many numbers its bytes can hold.
+// Sign cells, digit cells, base; the range, from `below` below 0 to `above` above it; how many numbers its
+// bytes can hold.
 pub struct Numeral {
     pub signs: u8,
     pub digits: u8,
@@ -106,8 +108,8 @@ fn code_spans(code: usize, x: usize) -> bool
     false
 }
 
-// Whether a number is in the range of an integer's code, for readers that make no record of a field. A code past the
-// last reads as the last.
+// Whether a number is in the range of an integer's code, for readers that make no record of a field. A code
+// past the last reads as the last.
 pub fn is_in_code(code: usize, x: usize) -> bool
     ensures { λ r. ⌜ r ≡ spans (numeralOf (formatOf code)) x ⌝ }
 {

@@ -2,12 +2,14 @@
 ghost use mathlib.Core.Path.{_≡_};
 ghost use Rattle.laws.specs.Choice.{if_then_else_};
 ghost use Rattle.field.specs.Formats.{baseOf};
-ghost use Rattle.field.specs.Profiles.{moving, sliding, parted, firing, stepping, profileOf, ends, flag, digit, cellOf};
+ghost use Rattle.field.specs.Profiles.{moving, sliding, parted, firing, stepping, profileOf, ends};
+ghost use Rattle.field.specs.Profiles.{flag, digit, cellOf};
 use crate::kind::Format;
 use crate::kind::Kind;
 use crate::numeral::bits_in;
 
-// A kind's cells and bytes, and what keys do: LEFT and RIGHT move, LEFT and RIGHT step, ENTER goes from part to part, cursor keys fire.
+// A kind's cells and bytes, and what keys do: LEFT and RIGHT move, LEFT and RIGHT step, ENTER goes from part
+// to part, cursor keys fire.
 pub struct Profile {
     pub cells: u8,
     pub bytes: u8,

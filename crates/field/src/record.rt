@@ -10,8 +10,8 @@ use crate::value::load;
 use crate::value::put;
 use crate::work::Work;
 
-// Where the component's tag stands in the image, where the bytes lie in the sheet (a trigger has none), what the field is, and its default,
-// of as many bytes as the kind has.
+// Where the component's tag is in the image, where the bytes lie in the sheet (a trigger has none), what the
+// field is, and its default, of as many bytes as the kind has.
 pub struct Field {
     pub image: ImagePlace,
     pub sheet: SheetPlace,

@@ -1,7 +1,8 @@
 // Whether the settings that an image gives a field are good: what refusal 9 asks.
 ghost use mathlib.Core.Path.{_≡_};
 ghost use Prim.Native.Nat.{_≤_};
-ghost use Rattle.field.specs.Settings.{digitCount, countedCells, stepFits, widthFits, kindFits, settingsFit};
+ghost use Rattle.field.specs.Settings.{digitCount, countedCells, stepFits, widthFits, kindFits};
+ghost use Rattle.field.specs.Settings.{settingsFit};
 use crate::kind::CounterSettings;
 use crate::kind::Kind;
 use crate::value::Value;

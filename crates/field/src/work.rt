@@ -5,7 +5,8 @@ ghost use Prim.Native.Nat.{_*_, _/_, _%_, _<_};
 ghost use lib.ListN.{getD};
 ghost use Rattle.laws.specs.Choice.{if_then_else_, _and_};
 ghost use Rattle.field.specs.Profiles.{cellOf};
-ghost use Rattle.field.specs.Cells.{biased, cellsOf, storedIn, stores, within, legal, inRange, workOf, started, finished};
+ghost use Rattle.field.specs.Cells.{biased, cellsOf, storedIn, stores, within, legal, inRange, workOf};
+ghost use Rattle.field.specs.Cells.{started, finished};
 use crate::kind::Kind;
 use crate::numeral::Numeral;
 use crate::profile::Cell;
@@ -181,7 +182,8 @@ fn is_within(c: Cell, x: u32) -> bool
 
 // Whether three cells of a kind are within their ends.
 fn are_within(kind: Kind, a: u32, b: u32, c: u32) -> bool
-    ensures { λ r. ⌜ r ≡ (within (cellOf kind 0) a and within (cellOf kind 1) b) and within (cellOf kind 2) c ⌝ }
+    ensures { λ r. ⌜ r ≡ (within (cellOf kind 0) a and within (cellOf kind 1) b)
+        and within (cellOf kind 2) c ⌝ }
 {
     if is_within(cell_of(kind, 0), a) {
         if is_within(cell_of(kind, 1), b) {
@@ -191,8 +193,8 @@ fn are_within(kind: Kind, a: u32, b: u32, c: u32) -> bool
     false
 }
 
-// Whether a number that the field's bytes can hold is in its range. No cells are made for it: the digits of an integer or switch are legal by
-// themselves, and the parts of a time or date are its bytes.
+// Whether a number that the field's bytes can hold is in its range. No cells are made for it: the digits of
+// an integer or switch are legal by themselves, and the parts of a time or date are its bytes.
 pub fn in_range(kind: Kind, x: u32) -> bool
     ensures { λ r. ⌜ r ≡ inRange kind x ⌝ }
 {

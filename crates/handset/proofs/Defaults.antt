@@ -1,5 +1,5 @@
 -- After Open each field's bytes are its default, whatever the sheet held, other bytes are as they were, and the session fits. A default
--- that stands stays: a later one is that of a field apart, or of the same field again.
+-- that was written stays: a later one is that of a field apart, or of the same field again.
 use Prim.Native.Nat.{ℕ, _+_, _-_, _≤_, _<_}
 use mathlib.Core.Path.{_≡_, refl, _∙_}
 use mathlib.Core.Bool.{true}
@@ -36,7 +36,7 @@ module _ (im : List ℕ) where
     sized : (f : Field) → List·Memᴰ f (w .fields) → length (bytesOf (f .default)) ≡ sizeOf f
     sized f m = every-in (all-standing im n w) f m .sized
 
-    -- a default that stands stays when another field's is written
+    -- a default that was written stays when another field's is written
     stays : (f g : Field) (s : List ℕ) → List·Memᴰ f (w .fields) → List·Memᴰ g (w .fields) → length s ≡ n
         → ownBytes f s ≡ bytesOf (f .default) → ownBytes f (defaultWritten g s) ≡ bytesOf (f .default)
     stays f g s m k l h = go (others-apart im n w g f k m)

@@ -44,7 +44,7 @@ not-yet p (f ∷ es) e h n = go (f .place .0 =? p) h (λ g. not-yet p es e g n)
     go true g next = absurd (true≢false g)
     go false g next = next g
 
--- an entry below k that stands at the place
+-- an entry below k that is at the place
 pub found : (p : ℕ) (xs : List ℕ) (i k : ℕ) → i < k → entryAt xs i .place .0 ≡ p → reached p (listed xs k) ≡ true
 unfolding listed
 found p xs i zero h e = absurd (omega arith)

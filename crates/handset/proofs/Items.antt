@@ -1,4 +1,4 @@
--- An option text that is not refused is the item's own bytes, all of them in the image, and the items stand one behind the other:
+-- An option text that is not refused is the item's own bytes, all of them in the image, and the items are one after the other:
 -- the place is that of a field of a well-formed image, and section 7 has an option's texts there.
 use Prim.Native.Nat.{ℕ, zero, suc, _+_, _-_, _≤_, _<_}
 use mathlib.Core.Path.{_≡_, refl, sym, _∙_}
@@ -24,10 +24,10 @@ use Rattle.handset.specs.declared.option.TextPlace.{TextPlace}
 use Rattle.handset.proofs.Ordering.{none-before, none-unless}
 use Rattle.handset.proofs.Finding.{place-none, place-some, place-refusal}
 
--- ---- texts one behind the other
+-- ---- texts one after the other
 
 module _ (im : List ℕ) where
-  -- behind a text that begins in the image the next ones are counted from its end
+  -- after a text that begins in the image the next ones are counted from its end
   step : (k at : ℕ) → at < length im → itemFrom im (suc k) at ≡ itemFrom im k (at + 1 + byteAt im at)
   unfolding itemFrom
   step k at h = if-lt at (length im) _ _ h
@@ -42,7 +42,7 @@ module _ (im : List ℕ) where
   texts-stand {at = at} (Texts.more mid t ts) (suc k) h =
       rw (step k at (omega (arith, t .ends, t .inside)), ← t .ends) (texts-stand ts k (omega arith))
 
-  -- behind a text that is all in the image stands the next
+  -- after a text that is all in the image comes the next
   texts-turn :
       (k at : ℕ) → itemFrom im k at + 1 + byteAt im (itemFrom im k at) ≤ length im →
       itemFrom im (suc k) at ≡ itemFrom im k at + 1 + byteAt im (itemFrom im k at)
@@ -187,12 +187,12 @@ module _ (im : List ℕ) (sheet place item k : ℕ) (q : k ≡ textRefusal im sh
     pub placed : (n : ℕ) → n ≡ byteAt im p → textAt 0 (p + 1) n ≡ textPlace im sheet place item
     placed n f = rw (f, found) (sym (place-some im sheet place item (sym q ∙ z)))
 
--- the first item stands behind the ten bytes of 7.5.21
+-- the first item is after the ten bytes of 7.5.21
 pub first-item : (im : List ℕ) (place : ℕ) → itemPlace im place 0 ≡ place + 10
 unfolding itemFrom
 first-item im place = refl
 
--- and behind each item that is all in the image stands the next
+-- and after each item that is all in the image comes the next
 pub items-in-turn :
     (im : List ℕ) (place item : ℕ) → itemPlace im place item + 1 + byteAt im (itemPlace im place item) ≤ length im →
     itemPlace im place (item + 1) ≡ itemPlace im place item + 1 + byteAt im (itemPlace im place item)

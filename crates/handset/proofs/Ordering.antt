@@ -28,7 +28,7 @@ pub failing : (k : ℕ) (t : Bool) → t ≡ false → k unless t ≡ k
 unfolding _unless_
 failing k t h = if-false _ _ h
 
--- one test more behind those that give r, which a call knows as k: what the call answers in each case
+-- one test more after those that give r, which a call knows as k: what the call answers in each case
 module _ (k r j : ℕ) (t : Bool) (e : k ≡ r) where
   pub refused-before : (k ≡ 0 → ⊥) → k ≡ r before (j unless t)
   refused-before h = sym (rw (← e) (first-given k _ h))

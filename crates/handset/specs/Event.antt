@@ -22,7 +22,8 @@ refusedWith s k = record { session = s; answer = answer.Refused k }
 -- the session and the answer: what the step of the session's mode gives
 unfoldable pub eventStep : List ℕ → List ℕ → Session → ℕ → Stepped
 eventStep im sheet s e =
-    if eventRefusal im (length sheet) s e =? 0 then stepOf im sheet s e else refusedWith s (eventRefusal im (length sheet) s e)
+    if eventRefusal im (length sheet) s e =? 0 then stepOf im sheet s e
+    else refusedWith s (eventRefusal im (length sheet) s e)
 
 -- the answer by its number and values
 unfoldable pub eventAnswer : List ℕ → List ℕ → Session → ℕ → ℕ

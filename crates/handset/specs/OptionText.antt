@@ -34,13 +34,15 @@ itemsIn Trigger = 0
 unfoldable pub textRefusal : List ℕ → ℕ → ℕ → ℕ → ℕ
 textRefusal im sheet place item =
     refusalOf im sheet
-    before (14 unless (reached place (checked im sheet .fields) and (item <? itemsIn (componentAt im place .field .kind))))
+    before (14 unless (reached place (checked im sheet .fields)
+    and (item <? itemsIn (componentAt im place .field .kind))))
 
 -- a refusal, or the place of a text's first byte and how many there are
 abbrev pub textAt : ℕ → ℕ → ℕ → TextPlace
 textAt k start n = record { refusal = k; start = record { 0 = start }; length = n }
 
--- where the item's own bytes are: after its length byte, as many as that says; a refusal has neither place nor length
+-- where the item's own bytes are: after its length byte, as many as that says; a refusal has neither place
+-- nor length
 unfoldable pub textPlace : List ℕ → ℕ → ℕ → ℕ → TextPlace
 textPlace im sheet place item =
     if textRefusal im sheet place item =? 0
@@ -52,7 +54,8 @@ unfoldable pub optionText : List ℕ → ℕ → ℕ → ℕ → List ℕ
 optionText im sheet place item =
     partAt (textPlace im sheet place item .start .0) (textPlace im sheet place item .length) im
 
--- a text is the item's: all of the item is in the image, and the text is the bytes after its length byte, as many as that says
+-- a text is the item's: all of the item is in the image, and the text is the bytes after its length byte, as
+-- many as that says
 pub record ItemIs (im : List ℕ) (place item : ℕ) (text : List ℕ) : Type 0 where
   pub inside : itemPlace im place item + 1 + byteAt im (itemPlace im place item) ≤ length im
   pub bytes : text ≡ partAt (itemPlace im place item + 1) (byteAt im (itemPlace im place item)) im

@@ -1,4 +1,4 @@
-// The call Draw: fills a picture, and says where the edit cursor stands.
+// The call Draw: fills a picture, and says where the edit cursor is.
 ghost use mathlib.Core.Path.{_≡_};
 ghost use Prim.Native.Nat.{_*_};
 ghost use lib.ListN.{length};
@@ -20,7 +20,8 @@ pub struct Drawn {
     pub cursor: EditCursor,
 }
 
-// The refusal number, 0 for none, where that of image, sheet and session is known; the picture has so many bytes.
+// The refusal number, 0 for none, where that of image, sheet and session is known; the picture has so many
+// bytes.
 fn draw_refusal(refusal: u8, columns: u8, lines: u8, length: usize) -> u8
     ensures { λ r. ⌜ r ≡ (refusal before (1 unless (length =? columns * lines))) ⌝ }
 {
@@ -34,9 +35,13 @@ fn draw_refusal(refusal: u8, columns: u8, lines: u8, length: usize) -> u8
 }
 
 pub fn draw(image: &[u8], sheet: &[u8], session: Session, picture: &mut [u8]) -> Drawn
-    ensures { λ r. ⌜ r .refusal ≡ drawRefusal (now (image .entry)) (length (now (sheet .entry))) session (length (now (picture .entry))) ⌝ }
-    ensures { λ r. ⌜ cursorPlace (r .cursor) ≡ drawCursor (now (image .entry)) (length (now (sheet .entry))) session (length (now (picture .entry))) ⌝ }
-    ensures { λ _. ⌜ now (picture .exit) ≡ drawnPicture (now (image .entry)) (now (sheet .entry)) session (now (picture .entry)) ⌝ }
+    ensures { λ r. ⌜ r .refusal ≡ drawRefusal (now (image .entry)) (length (now (sheet .entry))) session
+        (length (now (picture .entry))) ⌝ }
+    ensures { λ r. ⌜ cursorPlace (r .cursor)
+        ≡ drawCursor (now (image .entry)) (length (now (sheet .entry))) session
+        (length (now (picture .entry))) ⌝ }
+    ensures { λ _. ⌜ now (picture .exit)
+        ≡ drawnPicture (now (image .entry)) (now (sheet .entry)) session (now (picture .entry)) ⌝ }
 {
     let faulty = refusal_of(image, sheet.len());
     let unfit = session_refusal(faulty, image, session);

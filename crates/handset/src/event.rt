@@ -25,10 +25,12 @@ pub fn event_refusal(refusal: u8, event: u8) -> u8
     NO_EVENT
 }
 
-// The next session with the answer. The sheet changes only where a visit is finished, and only in that field's bytes.
+// The next session with the answer. The sheet changes only where a visit is finished, and only in that
+// field's bytes.
 pub fn event(image: &[u8], sheet: &mut [u8], session: Session, event: u8) -> Stepped
     ensures { λ r. ⌜ r ≡ eventStep (now (image .entry)) (now (sheet .entry)) session event ⌝ }
-    ensures { λ r. ⌜ answerNumber (r .answer) ≡ eventAnswer (now (image .entry)) (now (sheet .entry)) session event ⌝ }
+    ensures { λ r. ⌜ answerNumber (r .answer)
+        ≡ eventAnswer (now (image .entry)) (now (sheet .entry)) session event ⌝ }
     ensures { λ _. ⌜ now (sheet .exit) ≡ eventSheet (now (image .entry)) (now (sheet .entry)) session event ⌝ }
 {
     let faulty = refusal_of(image, sheet.len());

@@ -66,7 +66,8 @@ fn write_table(image: &[u8], left: usize, at: usize, sheet: &mut [u8])
 
 // Of all fields of an image.
 pub(crate) fn write_defaults(image: &[u8], sheet: &mut [u8])
-    ensures { λ _. ⌜ now (sheet .exit) ≡ defaultsWritten (fieldsOf (now (image .entry))) (now (sheet .entry)) ⌝ }
+    ensures { λ _. ⌜ now (sheet .exit) ≡ defaultsWritten (fieldsOf (now (image .entry)))
+        (now (sheet .entry)) ⌝ }
 {
     write_table(image, Image::MAX_DEPTH, Image::PROLOG, &mut *sheet);
 }

@@ -12,14 +12,15 @@ use field::kind::Kind;
 use laws::byte_at;
 use walk::check::check;
 
-// Where an item's own bytes are in the image: the place of the first and how many; both 0 where the call is refused.
+// Where an item's own bytes are in the image: the place of the first and how many; both 0 where the call is
+// refused.
 pub struct TextPlace {
     pub refusal: u8,
     pub start: ImagePlace,
     pub length: usize,
 }
 
-// Whether one of the first k entries of an index stands at a place.
+// Whether one of the first k entries of an index is at a place.
 fn is_reached(index: &[usize], k: usize, place: usize) -> bool
     ensures { λ r. ⌜ r ≡ reached place (listed (now (index .entry)) k) ⌝ }
 {
@@ -102,7 +103,8 @@ pub fn option_text<'a, 'b, 'c>(
     refusal: &'c mut u8,
 ) -> &'a [u8]
     ensures { λ r. ⌜ now r ≡ optionText (now (image .entry)) (length (now (sheet .entry))) (place .0) item ⌝ }
-    ensures { λ r. ⌜ now (refusal .exit) ≡ textRefusal (now (image .entry)) (length (now (sheet .entry))) (place .0) item ⌝ }
+    ensures { λ r. ⌜ now (refusal .exit)
+        ≡ textRefusal (now (image .entry)) (length (now (sheet .entry))) (place .0) item ⌝ }
 {
     let found = text_place(image, sheet, place, item);
     *refusal = found.refusal;

@@ -1,4 +1,4 @@
--- The components of a line: an editable one holds a field, the first editable one of a list is in it, and what comes behind a component of a
+-- The components of a line: an editable one holds a field, the first editable one of a list is in it, and what comes after a component of a
 -- line is on that line too.
 use Prim.Native.Nat.{ℕ, zero, suc, _+_, _%_, _≤_, _<_}
 use mathlib.Core.Path.{_≡_, refl, sym, _∙_, subst}
@@ -105,7 +105,7 @@ module _ (im : List ℕ) where
       (λ e. EditableIn.here (List·Memᴰ·head refl) e)
       (λ _. editable-within ps (p ∷ ps) _ (λ q m. List·Memᴰ·tail m) (first-editable-in ps))
 
-  -- what comes behind a component that is not the last of its line is on the line; k bounds the turns, and is enough
+  -- what comes after a component that is not the last of its line is on the line; k bounds the turns, and is enough
   pub behind-in : (k c p q : ℕ) → length im < k + c → k ≤ length im + 1 → List·Memᴰ p (componentsFrom im k c) → componentAt im p .last ≡ false
       → List·Memᴰ q (componentsFrom im (length im + 1) (componentAt im p .next)) → List·Memᴰ q (componentsFrom im k c)
   unfolding componentsFrom
@@ -129,7 +129,7 @@ module _ (im : List ℕ) where
           (rw i at n)
       step e o (inr r) rest = rest r
 
-  -- so the editable component behind one of a line is on the line too
+  -- so the editable component after one of a line is on the line too
   pub next-editable-in : (c p : ℕ) → List·Memᴰ p (lineFromHere im c) → EditableIn im (lineFromHere im c) (nextEditable im p)
   unfolding nextEditable
   next-editable-in c p m =

@@ -1,5 +1,5 @@
 -- The cursor line of a session that fits is a line of the image's derivation: from the top table on each level's table was reached.
--- So what stands on it reads without fault, and its fields are the image's.
+-- So what is on it reads without fault, and its fields are the image's.
 use Prim.Native.Nat.{ℕ, zero, suc}
 use mathlib.Core.Path.{_≡_}
 use mathlib.Core.Bool.{true}

@@ -1,5 +1,5 @@
--- 01, The book of visits: the journal of a sitting. It is fed the image, by its visit rules, and the events with the answers that they got;
--- it sees nothing of a session.
+-- 01, The book of visits: the journal of a sitting. It is fed the image, by its visit rules, and the events
+-- with the answers that they got; it sees nothing of a session.
 use Prim.Native.Nat.{ℕ, zero, suc}
 use mathlib.Core.Path.{_≡_}
 use mathlib.Core.Bool.{Bool, true, false}
@@ -25,8 +25,9 @@ pub data Out (W : Type 0) : Type 0 where
   on : W → Out W
   stored : List ℕ → Out W
 
--- the visit rules of an image's fields, each field by its image place: its default bytes; how a visit starts from the field's bytes; what a key
--- makes of the visit; and which ENTER opened a visit, counted back from the one that finished it, that one first and none that flashed
+-- the visit rules of an image's fields, each field by its image place: its default bytes; how a visit starts
+-- from the field's bytes; what a key makes of the visit; and which ENTER opened a visit, counted back from
+-- the one that finished it, that one first and none that flashed
 pub record Rules (W : Type 0) : Type 0 where
   pub default : ℕ → List ℕ
   pub start : ℕ → List ℕ → W
@@ -74,7 +75,8 @@ module _ {W : Type 0} (R : Rules W) (p : ℕ) where
   presses o [] = o
   presses o (k ∷ ks) = presses (onward o k) ks
 
-  -- the bytes that a visit leaves; b are those from before. A finished visit has stored, with its last key (`Finishes`)
+  -- the bytes that a visit leaves; b are those from before. A finished visit has stored, with its last key
+  -- (`Finishes`)
   abbrev pub leaves : List ℕ → Out W → List ℕ
   leaves b (on w) = b
   leaves b (stored v) = v
@@ -88,7 +90,8 @@ module _ {W : Type 0} (R : Rules W) (p : ℕ) where
   allVisited b [] = b
   allVisited b (v ∷ vs) = allVisited (visited b v) vs
 
-  -- a visit that starts from the bytes b is finished: its last key is an ENTER that stores, and no key before it does
+  -- a visit that starts from the bytes b is finished: its last key is an ENTER that stores, and no key before
+  -- it does
   pub record Finishes (b keys : List ℕ) : Type 0 where
     pub before : List ℕ
     pub last : ℕ
@@ -105,7 +108,8 @@ module _ {W : Type 0} (R : Rules W) (p : ℕ) where
 
 -- ---- the journal
 
--- the trace; each field's finished visits, oldest first; each field's bytes. Fields are named by their image places
+-- the trace; each field's finished visits, oldest first; each field's bytes. Fields are named by their image
+-- places
 pub record Journal : Type 0 where
   pub trace : List Answered
   pub visits : ℕ → List (List ℕ)
@@ -131,7 +135,8 @@ module _ {W : Type 0} (R : Rules W) where
     bytes = update (j .bytes) p (visited R p (j .bytes p) keys);
   }
 
-  -- an answer is dealt with; it is on the trace. 01: on finished, the field at its place gets a finished visit
+  -- an answer is dealt with; it is on the trace. 01: on finished, the field at its place gets a finished
+  -- visit
   abbrev pub settled : Answer → Journal → Journal
   settled answer.Taken j = j
   settled answer.Flash j = j

@@ -1,4 +1,5 @@
--- The visit rules of an image (01, Fields and Keys), as the journal is fed them: those of crate field, at the field that is read at a place.
+-- The visit rules of an image (01, Fields and Keys), as the journal is fed them: those of crate field, at the
+-- field that is read at a place.
 use Prim.Native.Nat.{ℕ, _+_, _≤_}
 use mathlib.Core.Path.{_≡_}
 use mathlib.Core.Logic.{_⊎_}
@@ -32,8 +33,9 @@ openerOf (Switch n) = 2
 openerOf (Option n w) = 2
 openerOf Trigger = 2
 
--- what follows for the visit from a key's outcome, with the working copy v that the key gave: a flash leaves the copy w, and only the last ENTER
--- stores. Fired and Passed are a trigger's, which has no bytes and no finished visit
+-- what follows for the visit from a key's outcome, with the working copy v that the key gave: a flash leaves
+-- the copy w, and only the last ENTER stores. Fired and Passed are a trigger's, which has no bytes and no
+-- finished visit
 unfoldable pub outOf : Kind → Work → Work → Outcome → Out Work
 outOf k w v outcome.Taken = on v
 outOf k w v outcome.Flash = on w
@@ -59,8 +61,9 @@ rulesOf im = record {
   opener = λ p. openerOf (fieldAt im p .kind);
 }
 
--- a field of an image stands at a place: for some length of the sheet the image is well formed, and what is read at the place is one of its fields.
--- Every field of the image is one (`Promises`, `every-field`), and the fields are the same for every sheet (`progress` `same-fields`)
+-- a field of an image is at a place: for some length of the sheet the image is well formed, and what is read
+-- at the place is one of its fields. Every field of the image is one (`Promises`, `every-field`), and the
+-- fields are the same for every sheet (`progress` `same-fields`)
 pub record IsField (im : List ℕ) (q : ℕ) : Type 0 where
   pub sheet : ℕ
   pub formed : WellFormed im sheet
@@ -68,7 +71,8 @@ pub record IsField (im : List ℕ) (q : ℕ) : Type 0 where
 
 -- the n bytes of a sheet from a place on lie beside every field
 pub record Beside (im : List ℕ) (from n : ℕ) : Type 0 where
-  pub beside : (q : ℕ) → IsField im q → (from + n ≤ fieldAt im q .sheet .0) ⊎ (fieldAt im q .sheet .0 + sizeOf (fieldAt im q) ≤ from)
+  pub beside : (q : ℕ) → IsField im q → (from + n ≤ fieldAt im q .sheet .0)
+      ⊎ (fieldAt im q .sheet .0 + sizeOf (fieldAt im q) ≤ from)
 
 -- each field's bytes in the sheet are the journal's
 pub record HoldsJournal (im sheet : List ℕ) (j : Journal) : Type 0 where

@@ -1,4 +1,5 @@
--- A sitting: Open, and then one event after another, each with the session and the sheet that the call before left.
+-- A sitting: Open, and then one event after another, each with the session and the sheet that the call before
+-- left.
 use Prim.Native.Nat.{ℕ}
 use mathlib.Core.List.{List, [], _∷_}
 use lib.ListN.{length}
@@ -24,7 +25,8 @@ begunWith im sheet columns lines =
 
 -- after an event, and what it answered; a refused event leaves both as they were
 unfoldable pub next : List ℕ → Sitting → ℕ → Sitting
-next im t e = sitting (eventStep im (t .sheet) (t .session) e .session) (eventSheet im (t .sheet) (t .session) e)
+next im t e = sitting (eventStep im (t .sheet) (t .session) e .session)
+    (eventSheet im (t .sheet) (t .session) e)
 
 unfoldable pub answerTo : List ℕ → Sitting → ℕ → Answer
 answerTo im t e = eventStep im (t .sheet) (t .session) e .answer

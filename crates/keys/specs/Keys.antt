@@ -1,4 +1,5 @@
--- 01, Keys, a visit: what each key makes of the working copy. Keys go by the rows of the tables; only ENTER asks the kind whether it can store.
+-- 01, Keys, a visit: what each key makes of the working copy. Keys go by the rows of the tables; only ENTER
+-- asks the kind whether it can store.
 use Prim.Native.Nat.{ℕ, _+_, _-_}
 use mathlib.Core.Bool.{Bool}
 use lib.ListN.{getD, set}
@@ -12,7 +13,8 @@ use Rattle.field.specs.declared.work.Work.{Work}
 use Rattle.keys.specs.declared.press.Pressed.{Pressed}
 use Rattle.keys.specs.declared.press.Outcome.the-variants as outcome
 
--- the visit goes on with this working copy; a flash leaves it as it is (01's terms taken and flash; going to the next part and passing a trigger by are taken too)
+-- the visit goes on with this working copy; a flash leaves it as it is (01's terms taken and flash; going to
+-- the next part and passing a trigger by are taken too)
 abbrev pub taken : Work → Pressed
 taken w = record { work = w; outcome = outcome.Taken }
 
@@ -42,7 +44,8 @@ withChosen w x = record { cells = set (w .cells) (w .at) x; at = w .at }
 abbrev pub choosing : Work → ℕ → Work
 choosing w i = record { cells = w .cells; at = i }
 
--- a step up: a sign or bit is set, and setting what is set is taken; any other cell steps, and flashes where it would leave its range
+-- a step up: a sign or bit is set, and setting what is set is taken; any other cell steps, and flashes where
+-- it would leave its range
 unfoldable pub raised : Cell → Work → Pressed
 raised c w =
     if c .sets then taken (withChosen w (c .high))
@@ -56,7 +59,8 @@ lowered c w =
     else if (c .low + c .step) ≤? chosen w then taken (withChosen w (chosen w - c .step))
     else flash w
 
--- UP and DOWN step a digit, a part or a counter, or set a sign or bit; an option they do not step; any cursor key fires a trigger
+-- UP and DOWN step a digit, a part or a counter, or set a sign or bit; an option they do not step; any cursor
+-- key fires a trigger
 unfoldable pub upKey : Profile → Cell → Work → Pressed
 upKey p c w = if p .fires then fired w else if p .slides then flash w else raised c w
 
@@ -92,7 +96,8 @@ digitKey p c w d =
 unfoldable pub partAfter : Profile → Work → Bool
 partAfter p w = p .parts and ((w .at + 1) <? p .cells)
 
--- ENTER passes a trigger by, and goes to the next part of a time or date; the last ENTER finishes the visit if what is shown can be stored
+-- ENTER passes a trigger by, and goes to the next part of a time or date; the last ENTER finishes the visit
+-- if what is shown can be stored
 unfoldable pub enterKey : Kind → Work → Pressed
 enterKey k w =
     if profileOf k .fires then passedBy w

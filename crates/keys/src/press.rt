@@ -1,15 +1,17 @@
-// A visit by keys: one function a key, each from a working copy and its rows of the tables to the next working copy. ENTER takes the kind.
+// A visit by keys: one function a key, each from a working copy and its rows of the tables to the next
+// working copy. ENTER takes the kind.
 ghost use mathlib.Core.Path.{_≡_};
 ghost use Prim.Native.Nat.{_<_};
-ghost use Rattle.keys.specs.Keys.{taken, flash, chosen, withChosen, raised, lowered, upKey, downKey, leftKey, rightKey, onRight, digitKey, partAfter, enterKey};
+ghost use Rattle.keys.specs.Keys.{taken, flash, chosen, withChosen, raised, lowered, upKey, downKey};
+ghost use Rattle.keys.specs.Keys.{leftKey, rightKey, onRight, digitKey, partAfter, enterKey};
 use field::kind::Kind;
 use field::profile::Cell;
 use field::profile::Profile;
 use field::profile::profile_of;
 use field::work::Work;
 
-// What a key came to. Taken: the visit goes on. Flash: it stays as it was. NextPart: ENTER went to the next part of a time or date.
-// Done: the last ENTER. Fired: a cursor key on a trigger. Passed: ENTER on a trigger.
+// What a key came to. Taken: the visit goes on. Flash: it stays as it was. NextPart: ENTER went to the next
+// part of a time or date. Done: the last ENTER. Fired: a cursor key on a trigger. Passed: ENTER on a trigger.
 pub enum Outcome {
     Taken,
     Flash,

@@ -50,7 +50,7 @@ over-over (x ∷ d) zero [] t = simp (unary-clauses)
 over-over (x ∷ d) zero (y ∷ s) t = simp (unary-clauses, zero-add) (ap (λ (r : List ℕ). y ∷ r) (simp zero-add at (over-over d zero s t)))
 over-over (x ∷ d) (suc at) s t = simp (suc-add, unary-clauses) (ap (λ (r : List ℕ). x ∷ r) (over-over d at s t))
 
--- one list behind the other, whether they fit or not
+-- one list after the other, whether they fit or not
 pub over-next : (d : List ℕ) (at : ℕ) (s t : List ℕ) → over (over d at s) (at + length s) t ≡ over d at (s ++ t)
 over-next d at s t =
     by-test ((at + length s) ≤? length d)
@@ -61,7 +61,7 @@ over-next d at s t =
     ∙ sym (over-out (over d at s) (length d) t (omega (arith, length-over d at s)))
     ∙ rw m at (over-over d at s t))
 
--- a store behind a list is that list with one element more
+-- a store after a list is that list with one element more
 pub over-snoc : (d : List ℕ) (at y : ℕ) (s : List ℕ) → at + length s < length d → over (set d (at + length s) y) at s ≡ over d at (s ++ (y ∷ []))
 unfolding over
 over-snoc [] at y s p = absurd (not-suc-le-zero p)

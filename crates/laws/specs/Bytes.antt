@@ -13,6 +13,6 @@ byteAt s at = getD s at 0
 unfoldable pub wordAt : List ℕ → ℕ → ℕ
 wordAt s at = byteAt s at + 256 * byteAt s (at + 1)
 
--- whether n bytes stand at a place of a list of so many
+-- whether a list of so many has n bytes from a place on
 unfoldable pub room : ℕ → ℕ → ℕ → Bool
 room len at n = if at ≤? len then n ≤? (len - at) else false

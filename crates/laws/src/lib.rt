@@ -23,7 +23,7 @@ pub fn word_at(s: &[u8], at: usize) -> u16
     }
 }
 
-// Whether n bytes stand at a place.
+// Whether there are n bytes from a place on.
 pub fn room(s: &[u8], at: usize, n: usize) -> bool
     ensures { λ r. ⌜ r ≡ room (length (now (s .entry))) at n ⌝ }
 {

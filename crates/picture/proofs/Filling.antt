@@ -116,7 +116,7 @@ length-picture im sheet s h l =
     length-append (topRow im s) _
     ∙ rw (length-top im s (s .mode) h, length-rows im sheet s _ (s .lines - 1) _ _ (omega arith)) (rows-sum (s .columns) (s .lines) l)
 
--- what is written behind a place, from there on
+-- what is written after a place, from there on
 drop-over : (d : List ℕ) (at : ℕ) (s : List ℕ) → drop at (over d at s) ≡ over (drop at d) 0 s
 unfolding over
 drop-over [] zero s = refl
@@ -136,7 +136,7 @@ module _ (im sheet : List ℕ) (s : Session) (d : List ℕ) {e : List ℕ} (l : 
       omega
       (arith, length-drop (s .columns) d, rows-sum (s .columns) (s .lines) l, length-rows im sheet s (lineCount im (s .here .table .0)) (s .lines - 1) (s .here .first) (lineAt im (s .here .table .0) (s .here .first)) h)
 
-  -- row 0, and behind it the rows below it
+  -- row 0, and after it the rows below it
   pub picture-whole : {row : List ℕ} → 2 ≤ s .columns → row ≡ topRow im s → row ++ drop (s .columns) e ≡ pictureOf im sheet s
   unfolding pictureOf
   picture-whole h a =

@@ -1,4 +1,4 @@
--- The lines of the shown table as far as they are looked at: the count is right up to the line behind the last one seen, and so is the mark of more lines.
+-- The lines of the shown table as far as they are looked at: the count is right up to the line after the last one seen, and so is the mark of more lines.
 use Prim.Native.Nat.{ℕ, zero, suc, _+_, _-_, _≤_, _<_, min}
 use mathlib.Core.Path.{_≡_, refl, sym, ap, _∙_}
 use mathlib.Core.Bool.{Bool, true, false}

@@ -52,7 +52,7 @@ module _ {d e f all : List ℕ} {start m k : ℕ} (im sheet : List ℕ) (s : Ses
   data-turn zero p c h q r a = absurd (omega arith)
   data-turn (suc n) p c h q r a = let z : suc n - 1 ≡ n = omega arith in rw z (rest-step (rw (← q) at r) a)
 
-  -- the last component ends the loop; behind another there is the next
+  -- the last component ends the loop; after another there is the next
   pub data-last : (left p : ℕ) (c : Component) → 0 < left → c ≡ componentAt im p → Rest d start all e m (dataText im sheet s (componentsFrom im left p))
       → Put e m (componentText im sheet s p c) f k → c .last ≡ true → Put d start all f k
   unfolding dataText
@@ -144,7 +144,7 @@ module _ (im : List ℕ) (left p : ℕ) (c : Component) (all : Found) (mark r : 
       (λ a. editable-next im left p c l e a b ∙ before z))
       (λ h. absurd (eqb-false mark 0 h (sym (q ∙ if-ne mark 0 _ _ (eqb-false mark 0 h)) ∙ y)))
 
--- of the line that the cursor stands on
+-- of the line that the cursor is on
 pub mark-turn : (im : List ℕ) (l : Level) (k p mark other r : ℕ) → p ≡ lineAt im (l .table .0) k → r ≡ (if k =? l .cursor then mark else other)
     → ((mark ≡ 0 → ⊥) → mark ≡ markOf (firstEditable im (componentsOf im p))) → ((other ≡ 0 → ⊥) → other ≡ editMark im l) → (r ≡ 0 → ⊥) → r ≡ editMark im l
 unfolding editMark

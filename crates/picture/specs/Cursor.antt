@@ -25,7 +25,7 @@ cursorPlace (At row column) = row ∷ column ∷ []
 unfoldable pub datePart : ℕ → ℕ → ℕ
 datePart year i = if i =? 0 then 0 else year + 1 + 3 * (i - 1)
 
--- which of its component's cells the cursor stands on, where cell or part i is chosen
+-- which of its component's cells the cursor is on, where cell or part i is chosen
 unfoldable pub cellWithin : Kind → ℕ → ℕ
 cellWithin (Integer f) i = i
 cellWithin (Counter s) i = s .width - 1
@@ -42,13 +42,15 @@ widthAt im p c = if c .fielded then widthOf (c .field .kind) else length (textBy
 -- the cells of the components before the one at a place
 unfoldable pub cellsBefore : List ℕ → ℕ → List ℕ → ℕ
 cellsBefore im place [] = 0
-cellsBefore im place (p ∷ ps) = if p =? place then 0 else widthAt im p (componentAt im p) + cellsBefore im place ps
+cellsBefore im place (p ∷ ps) = if p =? place then 0
+    else widthAt im p (componentAt im p) + cellsBefore im place ps
 
--- R31: the data cell that the cursor stands on, or the last that is shown
+-- R31: the data cell that the cursor is on, or the last that is shown
 unfoldable pub dataCell : List ℕ → Session → ℕ → ℕ
 dataCell im s p =
     min (s .columns - 3)
-    (cellsBefore im p (componentsOf im (cursorLine im (s .here))) + cellWithin (componentAt im p .field .kind) (s .work .at))
+    (cellsBefore im p (componentsOf im (cursorLine im (s .here))) + cellWithin (componentAt im p .field .kind)
+    (s .work .at))
 
 -- only a visit has one: on the row of the cursor line, and the data begins in column 1
 unfoldable pub cursorIn : List ℕ → Session → Mode → List ℕ

@@ -1,4 +1,5 @@
-// What a component of a line shows: a visited one its working copy, any other field the sheet's value, a string its text.
+// What a component of a line shows: a visited one its working copy, any other field the sheet's value, a
+// string its text.
 ghost use mathlib.Core.Path.{_≡_};
 ghost use Rattle.texts.specs.Row.{Put};
 ghost use Rattle.picture.specs.Rows.{visiting, componentText};
@@ -22,7 +23,8 @@ pub(crate) fn put_component(
     place: usize,
 ) -> usize
     requires { ⌜ now cells ≡ session .work .cells ⌝ }
-    ensures { λ r. ⌜ Put (now (row .entry)) at (componentText (now (image .entry)) (now (sheet .entry)) session place c) (now (row .exit)) r ⌝ }
+    ensures { λ r. ⌜ Put (now (row .entry)) at
+        (componentText (now (image .entry)) (now (sheet .entry)) session place c) (now (row .exit)) r ⌝ }
 {
     let field = c.field;
     let kind = field.kind;

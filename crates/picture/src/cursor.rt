@@ -1,8 +1,9 @@
-// The edit cursor: where the chosen cell of a visit stands in the picture.
+// The edit cursor: where the chosen cell of a visit is in the picture.
 ghost use mathlib.Core.Path.{_≡_};
 ghost use Prim.Native.Nat.{_+_, _≤_, _<_, min};
 ghost use Rattle.cmf.specs.Places.{componentsOf};
-ghost use Rattle.picture.specs.Cursor.{cursorPlace, datePart, cellWithin, widthAt, cellsBefore, dataCell, editCursor};
+ghost use Rattle.picture.specs.Cursor.{cursorPlace, datePart, cellWithin, widthAt, cellsBefore};
+ghost use Rattle.picture.specs.Cursor.{dataCell, editCursor};
 use cmf::component::Component;
 use cmf::component::read_component;
 use cmf::head::read_head;
@@ -48,9 +49,10 @@ fn counted(a: usize, b: usize) -> usize
     EditCursor::FAR
 }
 
-// The cells of the components of a line that stand before the one at a place, as far as they are counted.
+// The cells of the components of a line that are before the one at a place, as far as they are counted.
 fn cells_before(image: &[u8], line: usize, place: usize) -> usize
-    ensures { λ r. ⌜ r ≡ min 255 (cellsBefore (now (image .entry)) place (componentsOf (now (image .entry)) line)) ⌝ }
+    ensures { λ r. ⌜ r ≡ min 255 (cellsBefore (now (image .entry)) place
+        (componentsOf (now (image .entry)) line)) ⌝ }
 {
     let h = read_head(image, line);
     let mut p = h.component;
@@ -81,7 +83,7 @@ fn date_part(year: usize, i: usize) -> usize
     year + 1 + 3 * (i - 1)
 }
 
-// The cell that the cursor stands on within its component.
+// The cell that the cursor is on within its component.
 fn cell_within(kind: Kind, at: u8) -> usize
     ensures { λ r. ⌜ (r ≡ cellWithin kind at) × (r < 1024) ⌝ }
 {
@@ -100,7 +102,7 @@ fn cell_within(kind: Kind, at: u8) -> usize
     }
 }
 
-// The data cell that the cursor stands on.
+// The data cell that the cursor is on.
 fn data_cell(image: &[u8], session: Session, place: usize) -> usize
     ensures { λ r. ⌜ (r ≡ dataCell (now (image .entry)) session place) × (r ≤ 255) ⌝ }
 {
@@ -116,7 +118,7 @@ fn data_cell(image: &[u8], session: Session, place: usize) -> usize
     last
 }
 
-// Where the edit cursor stands.
+// Where the edit cursor is.
 pub fn edit_cursor(image: &[u8], session: Session) -> EditCursor
     ensures { λ r. ⌜ cursorPlace r ≡ editCursor (now (image .entry)) session ⌝ }
 {

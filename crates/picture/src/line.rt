@@ -18,7 +18,8 @@ use texts::row::pad;
 use texts::row::put;
 use texts::row::smaller;
 
-// Where a line's data end, and its mark in row 0: whether a component is editable, or 0 where the row does not tell.
+// Where a line's data end, and its mark in row 0: whether a component is editable, or 0 where the row does
+// not tell.
 struct Marked {
     end: usize,
     mark: u8,
@@ -118,7 +119,8 @@ fn put_start(
     ensures { λ _. ⌜ now (row .exit)
         ≡ fit blank (length (now (row .entry)))
         ((if k =? session .here .cursor then greater else blank)
-        ∷ dataText (now (image .entry)) (now (sheet .entry)) session (lineFromHere (now (image .entry)) first)) ⌝ }
+        ∷ dataText (now (image .entry)) (now (sheet .entry)) session
+        (lineFromHere (now (image .entry)) first)) ⌝ }
 {
     let start = put(&mut *row, 0, cursor_mark(k, session.here.cursor));
     let data = put_data(&mut *row, start, image, sheet, session, cells, first);
@@ -126,7 +128,8 @@ fn put_start(
     data.mark
 }
 
-// The row of line k, from 0, of the shown table; the line stands at p, and its head is given. Answers its mark in row 0, or 0.
+// The row of line k, from 0, of the shown table; the line is at p, and its head is given. Answers its mark in
+// row 0, or 0.
 pub(crate) fn put_line(
     row: &mut [u8],
     image: &[u8],
@@ -137,7 +140,8 @@ pub(crate) fn put_line(
     p: usize,
     h: Head,
 ) -> u8
-    requires { ⌜ (2 ≤ session .columns) × (length (now row) ≡ session .columns) × (now cells ≡ session .work .cells) × (h ≡ headAt (now image) p) ⌝ }
+    requires { ⌜ (2 ≤ session .columns) × (length (now row) ≡ session .columns)
+        × (now cells ≡ session .work .cells) × (h ≡ headAt (now image) p) ⌝ }
     ensures { λ r. ⌜ ((r ≡ 0 → ⊥)
         → r ≡ markOf (firstEditable (now (image .entry)) (componentsOf (now (image .entry)) p))) ⌝ }
     ensures { λ _. ⌜ now (row .exit) ≡ lineRow (now (image .entry)) (now (sheet .entry)) session k p ⌝ }

@@ -24,7 +24,8 @@ use session::session::Level;
 use session::session::Session;
 use texts::row::pad;
 
-// What is known of the shown table: how many lines it has, as far as they are looked at, where one of them stands, and its mark in row 0, or 0.
+// What is known of the shown table: how many lines it has, as far as they are looked at, where one of them
+// is, and its mark in row 0, or 0.
 struct Known {
     count: usize,
     place: usize,
@@ -34,7 +35,8 @@ struct Known {
 // The lines up to line k, from 0, and its place.
 fn known_to(image: &[u8], table: usize, k: usize) -> Known
     requires { ⌜ k < 256 ⌝ }
-    ensures { λ r. ⌜ (r .count ≡ min (k + 1) (lineCount (now (image .entry)) table)) × (r .place ≡ lineAt (now (image .entry)) table k) ⌝ }
+    ensures { λ r. ⌜ (r .count ≡ min (k + 1) (lineCount (now (image .entry)) table))
+        × (r .place ≡ lineAt (now (image .entry)) table k) ⌝ }
 {
     let line = reach(image, table, k);
     match line {
@@ -51,9 +53,10 @@ fn known_to(image: &[u8], table: usize, k: usize) -> Known
     }
 }
 
-// Of so many lines up to line k, which is the last or not, those up to the one behind it.
+// Of so many lines up to line k, which is the last or not, those up to the one after it.
 fn known_next(count: usize, k: usize, last: bool) -> usize
-    ensures { λ r. ⌜ r ≡ if count ≤? k then count else if last then count else if mostLinesOfTable <? count then count else count + 1 ⌝ }
+    ensures { λ r. ⌜ r ≡ if count ≤? k then count else if last then count else if mostLinesOfTable <? count
+        then count else count + 1 ⌝ }
 {
     if count <= k {
         return count;
@@ -67,7 +70,7 @@ fn known_next(count: usize, k: usize, last: bool) -> usize
     count + 1
 }
 
-// The place of line k where the cursor stands on it.
+// The place of line k where the cursor is on it.
 fn chosen(k: usize, cursor: u8, place: usize, other: usize) -> usize
     ensures { λ r. ⌜ r ≡ if k =? cursor then place else other ⌝ }
 {
@@ -81,10 +84,16 @@ fn chosen_mark(k: usize, cursor: u8, mark: u8, other: u8) -> u8
     if k == cursor as usize { mark } else { other }
 }
 
-// What row 0 asks, by the lines up to line k: how many there are, and the place of the cursor line, which is looked for where no row shows it.
+// What row 0 asks, by the lines up to line k: how many there are, and the place of the cursor line, which is
+// looked for where no row shows it.
 fn asked(image: &[u8], here: Level, lines: u8, k: usize, known: Known) -> Known
-    requires { ⌜ (lines - 1 ≤ k) × (known .count ≡ min (k + 1) (lineCount (now image) (here .table .0))) × (here .first ≤ here .cursor → here .cursor < k → known .place ≡ cursorLine (now image) here) × ((known .mark ≡ 0 → ⊥) → known .mark ≡ editMark (now image) here) ⌝ }
-    ensures { λ r. ⌜ (moreMark (r .count) (lines - 1) (here .cursor) ≡ moreMark (lineCount (now (image .entry)) (here .table .0)) (lines - 1) (here .cursor)) × (r .place ≡ cursorLine (now (image .entry)) here) × ((r .mark ≡ 0 → ⊥) → r .mark ≡ editMark (now (image .entry)) here) ⌝ }
+    requires { ⌜ (lines - 1 ≤ k) × (known .count ≡ min (k + 1) (lineCount (now image) (here .table .0)))
+        × (here .first ≤ here .cursor → here .cursor < k → known .place ≡ cursorLine (now image) here)
+        × ((known .mark ≡ 0 → ⊥) → known .mark ≡ editMark (now image) here) ⌝ }
+    ensures { λ r. ⌜ (moreMark (r .count) (lines - 1) (here .cursor)
+        ≡ moreMark (lineCount (now (image .entry)) (here .table .0)) (lines - 1) (here .cursor))
+        × (r .place ≡ cursorLine (now (image .entry)) here)
+        × ((r .mark ≡ 0 → ⊥) → r .mark ≡ editMark (now (image .entry)) here) ⌝ }
 {
     if here.first <= here.cursor {
         if (here.cursor as usize) < k {
@@ -98,7 +107,8 @@ fn asked(image: &[u8], here: Level, lines: u8, k: usize, known: Known) -> Known
     }
 }
 
-// Writes the row of line k of a table of count lines, and answers its mark in row 0, or 0; the line stands at p, and its head is given.
+// Writes the row of line k of a table of count lines, and answers its mark in row 0, or 0; the line is at p,
+// and its head is given.
 fn put_row(
     row: &mut [u8],
     image: &[u8],
@@ -110,7 +120,8 @@ fn put_row(
     p: usize,
     h: Head,
 ) -> u8
-    requires { ⌜ (2 ≤ session .columns) × (length (now row) ≡ session .columns) × (now cells ≡ session .work .cells) × (h ≡ headAt (now image) p) ⌝ }
+    requires { ⌜ (2 ≤ session .columns) × (length (now row) ≡ session .columns)
+        × (now cells ≡ session .work .cells) × (h ≡ headAt (now image) p) ⌝ }
     ensures { λ r. ⌜ ((r ≡ 0 → ⊥)
         → r ≡ markOf (firstEditable (now (image .entry)) (componentsOf (now (image .entry)) p))) ⌝ }
     ensures { λ _. ⌜ now (row .exit) ≡ rowAt (now (image .entry)) (now (sheet .entry)) session count k p ⌝ }
@@ -124,9 +135,15 @@ fn put_row(
 
 // Writes the rows below row 0, and answers what row 0 asks.
 fn put_rows(image: &[u8], sheet: &[u8], session: Session, picture: &mut [u8]) -> Known
-    requires { ⌜ (2 ≤ session .columns) × (1 ≤ session .lines) × (length (now picture) ≡ session .columns * session .lines) ⌝ }
-    ensures { λ r. ⌜ (moreMark (r .count) (session .lines - 1) (session .here .cursor) ≡ moreMark (lineCount (now (image .entry)) (session .here .table .0)) (session .lines - 1) (session .here .cursor)) × (r .place ≡ cursorLine (now (image .entry)) (session .here)) × ((r .mark ≡ 0 → ⊥) → r .mark ≡ editMark (now (image .entry)) (session .here)) ⌝ }
-    ensures { λ _. ⌜ now (picture .exit) ≡ over (now (picture .entry)) (session .columns) (rowsBelow (now (image .entry)) (now (sheet .entry)) session) ⌝ }
+    requires { ⌜ (2 ≤ session .columns) × (1 ≤ session .lines)
+        × (length (now picture) ≡ session .columns * session .lines) ⌝ }
+    ensures { λ r. ⌜ (moreMark (r .count) (session .lines - 1) (session .here .cursor)
+        ≡ moreMark (lineCount (now (image .entry)) (session .here .table .0)) (session .lines - 1)
+        (session .here .cursor)) × (r .place ≡ cursorLine (now (image .entry)) (session .here))
+        × ((r .mark ≡ 0 → ⊥) → r .mark ≡ editMark (now (image .entry)) (session .here)) ⌝ }
+    ensures { λ _. ⌜ now (picture .exit)
+        ≡ over (now (picture .entry)) (session .columns)
+        (rowsBelow (now (image .entry)) (now (sheet .entry)) session) ⌝ }
 {
     let columns = session.columns as usize;
     let here = session.here;
@@ -173,7 +190,8 @@ fn put_rows(image: &[u8], sheet: &[u8], session: Session, picture: &mut [u8]) ->
 
 // Writes the picture of a display of a legal shape into as many bytes as it has cells.
 fn write_picture(image: &[u8], sheet: &[u8], session: Session, picture: &mut [u8])
-    requires { ⌜ (shapeFits (session .columns) (session .lines) ≡ true) × (length (now picture) ≡ session .columns * session .lines) ⌝ }
+    requires { ⌜ (shapeFits (session .columns) (session .lines) ≡ true)
+        × (length (now picture) ≡ session .columns * session .lines) ⌝ }
     ensures { λ _. ⌜ now (picture .exit) ≡ pictureOf (now (image .entry)) (now (sheet .entry)) session ⌝ }
 {
     let known = put_rows(image, sheet, session, &mut *picture);
@@ -188,9 +206,11 @@ fn write_picture(image: &[u8], sheet: &[u8], session: Session, picture: &mut [u8
     );
 }
 
-// Writes the picture; nothing, where no display has the session's shape or the picture has another number of bytes.
+// Writes the picture; nothing, where no display has the session's shape or the picture has another number of
+// bytes.
 pub fn put_picture(image: &[u8], sheet: &[u8], session: Session, picture: &mut [u8])
-    ensures { λ _. ⌜ now (picture .exit) ≡ filled (now (image .entry)) (now (sheet .entry)) session (now (picture .entry)) ⌝ }
+    ensures { λ _. ⌜ now (picture .exit)
+        ≡ filled (now (image .entry)) (now (sheet .entry)) session (now (picture .entry)) ⌝ }
 {
     let shape = shape_fits(session.columns, session.lines);
     if !shape {

@@ -24,9 +24,10 @@ use texts::row::put_all;
 use texts::row::repeat;
 use texts::text::less;
 
-// The cursor line of a level stands at a place; its mark is given, or 0.
+// The cursor line of a level is at a place; its mark is given, or 0.
 fn edit_mark(image: &[u8], level: Level, line: usize, mark: u8) -> u8
-    requires { ⌜ (line ≡ cursorLine (now image) level) × ((mark ≡ 0 → ⊥) → mark ≡ editMark (now image) level) ⌝ }
+    requires { ⌜ (line ≡ cursorLine (now image) level)
+        × ((mark ≡ 0 → ⊥) → mark ≡ editMark (now image) level) ⌝ }
     ensures { λ r. ⌜ r ≡ editMark (now (image .entry)) level ⌝ }
 {
     if mark != 0 {
@@ -64,7 +65,8 @@ fn tens(n: usize) -> u8
 
 // The mark of the cursor line, its number from 1, and the mark of more lines.
 fn put_marks(row: &mut [u8], at: usize, edit: u8, cursor: u8, more: u8)
-    ensures { λ _. ⌜ now (row .exit) ≡ over (now (row .entry)) at (edit ∷ (lineNumber (cursor + 1) ++ (more ∷ []))) ⌝ }
+    ensures { λ _. ⌜ now (row .exit) ≡ over (now (row .entry)) at
+        (edit ∷ (lineNumber (cursor + 1) ++ (more ∷ []))) ⌝ }
 {
     let n = cursor as usize + 1;
     let high = put(&mut *row, at, edit);
@@ -73,9 +75,14 @@ fn put_marks(row: &mut [u8], at: usize, edit: u8, cursor: u8, more: u8)
     put(&mut *row, last, more);
 }
 
-// The title with the marks and the number of the cursor line, which stands at a place; `count` lines are known, enough for the mark of more lines.
+// The title with the marks and the number of the cursor line, which is at a place; `count` lines are known,
+// enough for the mark of more lines.
 fn put_title(row: &mut [u8], image: &[u8], session: Session, count: usize, line: usize, mark: u8)
-    requires { ⌜ (4 ≤ session .columns) × (length (now row) ≡ session .columns) × (1 ≤ session .lines) × (moreMark count (session .lines - 1) (session .here .cursor) ≡ moreMark (lineCount (now image) (session .here .table .0)) (session .lines - 1) (session .here .cursor)) × (line ≡ cursorLine (now image) (session .here)) × ((mark ≡ 0 → ⊥) → mark ≡ editMark (now image) (session .here)) ⌝ }
+    requires { ⌜ (4 ≤ session .columns) × (length (now row) ≡ session .columns) × (1 ≤ session .lines)
+        × (moreMark count (session .lines - 1) (session .here .cursor)
+        ≡ moreMark (lineCount (now image) (session .here .table .0)) (session .lines - 1)
+        (session .here .cursor)) × (line ≡ cursorLine (now image) (session .here))
+        × ((mark ≡ 0 → ⊥) → mark ≡ editMark (now image) (session .here)) ⌝ }
     ensures { λ _. ⌜ now (row .exit) ≡ titleRow (now (image .entry)) session ⌝ }
 {
     let here = session.here;
@@ -110,7 +117,8 @@ struct Entry {
 }
 
 fn entry_of(image: &[u8], session: Session) -> Entry
-    ensures { λ r. ⌜ topRow (now (image .entry)) session ≡ if r .open then passwordRow (now (image .entry)) session (r .typed) else titleRow (now (image .entry)) session ⌝ }
+    ensures { λ r. ⌜ topRow (now (image .entry)) session ≡ if r .open
+        then passwordRow (now (image .entry)) session (r .typed) else titleRow (now (image .entry)) session ⌝ }
 {
     let mode = session.mode;
     match mode {
@@ -138,7 +146,11 @@ pub(crate) fn put_top(
     line: usize,
     mark: u8,
 )
-    requires { ⌜ (4 ≤ session .columns) × (length (now row) ≡ session .columns) × (1 ≤ session .lines) × (moreMark count (session .lines - 1) (session .here .cursor) ≡ moreMark (lineCount (now image) (session .here .table .0)) (session .lines - 1) (session .here .cursor)) × (line ≡ cursorLine (now image) (session .here)) × ((mark ≡ 0 → ⊥) → mark ≡ editMark (now image) (session .here)) ⌝ }
+    requires { ⌜ (4 ≤ session .columns) × (length (now row) ≡ session .columns) × (1 ≤ session .lines)
+        × (moreMark count (session .lines - 1) (session .here .cursor)
+        ≡ moreMark (lineCount (now image) (session .here .table .0)) (session .lines - 1)
+        (session .here .cursor)) × (line ≡ cursorLine (now image) (session .here))
+        × ((mark ≡ 0 → ⊥) → mark ≡ editMark (now image) (session .here)) ⌝ }
     ensures { λ _. ⌜ now (row .exit) ≡ topRow (now (image .entry)) session ⌝ }
 {
     let entry = entry_of(image, session);

@@ -26,7 +26,7 @@ use Rattle.promises.proofs.Fitting.{Good, fits-of, Keeps, by-keeps, idl
 
 -- ---- digits typed
 
--- a digit behind others leaves them
+-- a digit after others leaves them
 digits-before : (ds : List ℕ) (n m d : ℕ) → n ≤ m → digitsTo ds n ≡ true → digitsTo (set ds m d) n ≡ true
 unfolding digitsTo
 digits-before ds zero m d l h = refl

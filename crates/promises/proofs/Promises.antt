@@ -56,12 +56,12 @@ use Rattle.promises.proofs.Starred.{starred-as-listed}
 
 -- ---- the order of refusals, as choices
 
--- a test behind a number
+-- a test after a number
 one-test : (r a : ℕ) (t : Bool) → r before (a unless t) ≡ (if r =? 0 then (if t then 0 else a) else r)
 unfolding _before_ _unless_
 one-test r a t = refl
 
--- and another behind both
+-- and another after both
 two-tests : (r a b : ℕ) (t u : Bool) → (a ≡ 0 → ⊥) → (r before (a unless t)) before (b unless u) ≡ (if r =? 0 then (if t then (if u then 0 else b) else a) else r)
 unfolding _unless_
 two-tests r a b t u h =
@@ -159,7 +159,7 @@ open-well im sheet columns lines =
       λ h. next-given _ _ (holding 1 (shapeFits columns lines) (h .0)) ∙ a .1 (h .1),
     )
 
--- a field of a list that stands at a place
+-- a field of a list that is at a place
 record Placed (p : ℕ) (fs : List Field) : Type 0 where
   field : Field
   known : List·Memᴰ field fs

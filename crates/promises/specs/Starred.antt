@@ -21,8 +21,8 @@ use Rattle.promises.specs.Examples.{pictured, counter, wideCounter, cloc
 pub data Seen : Type 0 where
   -- Open is refused: its number, the session that it gives, and the sheet
   refused : ℕ → Session → List ℕ → Seen
-  -- else the number of each answer (`answerNumber`); and at the end the sheet, and the image place and the cursor
-  -- line, from 0, of the shown table
+  -- else the number of each answer (`answerNumber`); and at the end the sheet, and the image place and the
+  -- cursor line, from 0, of the shown table
   gives : List ℕ → List ℕ → ℕ → ℕ → Seen
 
 -- what Open is given, the events, and what is to be seen

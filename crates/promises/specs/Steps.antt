@@ -47,7 +47,8 @@ Unchanged im s e z = (z ≡ withIdle s 0) ⊎ EntryFails im s e z
 -- every clause is a theorem
 pub record EventPromises (im sheet : List ℕ) (s : Session) (e : ℕ) : Type 0 where
   -- a flash changes nothing but the idle count, and what ends a password entry that fails
-  pub flash : eventAnswer im sheet s e ≡ answerNumber answer.Flash → Unchanged im s e (eventStep im sheet s e .session)
+  pub flash : eventAnswer im sheet s e ≡ answerNumber answer.Flash
+      → Unchanged im s e (eventStep im sheet s e .session)
   -- it leaves the sheet
   pub flash-sheet : eventAnswer im sheet s e ≡ answerNumber answer.Flash → eventSheet im sheet s e ≡ sheet
   -- so does every other answer but finished

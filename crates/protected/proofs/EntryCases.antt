@@ -40,7 +40,7 @@ cases =
     -- a digit that flashes ends it
     ∷ case (took right ∷ took 3 ∷ flashed 4 ∷ []) []
     ∷ case (took right ∷ flashed 1 ∷ took 2 ∷ []) []
-    -- digits without a RIGHT, or behind one that flashed, are of no entry
+    -- digits without a RIGHT, or after one that flashed, are of no entry
     ∷ case (took 3 ∷ took 4 ∷ []) []
     ∷ case (flashed right ∷ took 3 ∷ took 4 ∷ []) []
     ∷ []

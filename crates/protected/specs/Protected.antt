@@ -1,5 +1,6 @@
--- 01, Keys, password: a protected line opens its submenu only after its own digits. Which digits these were is told from the events and their answers
--- alone, and which line it was from the level that was shown meanwhile. That a delay ends an entry is not said here: it is a rule of the steps.
+-- 01, Keys, password: a protected line opens its submenu only after its own digits. Which digits these were
+-- is told from the events and their answers alone, and which line it was from the level that was shown
+-- meanwhile. That a delay ends an entry is not said here: it is a rule of the steps.
 use Prim.Native.Nat.{ℕ, _+_, _≤_, _<_}
 use mathlib.Core.Path.{_≡_}
 use mathlib.Core.Bool.{Bool, true, false}
@@ -27,8 +28,8 @@ abbrev pub digitMore : List ℕ → ℕ → List ℕ
 digitMore [] d = []
 digitMore (k ∷ ks) d = k ∷ (ks ++ (d ∷ []))
 
--- an event more: seconds and refused events are left out; a digit that flashed ends the entry; of the other keys those that flashed are left out, RIGHT
--- begins anew, and any other ends the entry
+-- an event more: seconds and refused events are left out; a digit that flashed ends the entry; of the other
+-- keys those that flashed are left out, RIGHT begins anew, and any other ends the entry
 unfoldable pub entryMore : List ℕ → Answered → List ℕ
 entryMore ks x =
     if ignored x then ks
@@ -69,9 +70,11 @@ abbrev pub StaysInEntry : List ℕ → ℕ → Level → Sitting → List ℕ �
 StaysInEntry im k l t [] = Unit {0}
 StaysInEntry im k l t (e ∷ es) = InEntry k l (t .session) × StaysInEntry im k l (next im t e) es
 
--- the events es, which follow on t, end with an entry on the cursor line of level l, with k levels above: a RIGHT on that line, and events that came
--- while the entry was open; by their answers its keys are a RIGHT and the digits ds
-pub record EndsWithEntry (im : List ℕ) (t : Sitting) (es : List ℕ) (k : ℕ) (l : Level) (ds : List ℕ) : Type 0 where
+-- the events es, which follow on t, end with an entry on the cursor line of level l, with k levels above: a
+-- RIGHT on that line, and events that came while the entry was open; by their answers its keys are a RIGHT
+-- and the digits ds
+pub record EndsWithEntry (im : List ℕ) (t : Sitting) (es : List ℕ) (k : ℕ) (l : Level)
+    (ds : List ℕ) : Type 0 where
   pub earlier : List ℕ
   pub keys : List ℕ
   pub all : es ≡ earlier ++ (right ∷ keys)
@@ -82,8 +85,9 @@ pub record EndsWithEntry (im : List ℕ) (t : Sitting) (es : List ℕ) (k : ℕ)
 
 -- ---- what is promised
 
--- behind the events es, which follow on t, the event e opened l's cursor line by its digits: they were typed in an entry on that line, and e was the last
--- of them; it showed the line's submenu, and level l went above as level k
+-- after the events es, which follow on t, the event e opened l's cursor line by its digits: they were typed
+-- in an entry on that line, and e was the last of them; it showed the line's submenu, and level l went above
+-- as level k
 pub record OpenedByDigits (im : List ℕ) (t : Sitting) (es : List ℕ) (e k : ℕ) (l : Level) : Type 0 where
   pub digits : List ℕ
   pub entry : EndsWithEntry im t (es ++ (e ∷ [])) k l digits
@@ -99,7 +103,8 @@ abbrev pub StaysBelow : List ℕ → ℕ → Sitting → List ℕ → Type 0
 StaysBelow im k t [] = k < t .session .outer
 StaysBelow im k t (e ∷ es) = (k < t .session .outer) × StaysBelow im k (next im t e) es
 
--- one of the events es, which follow on t, opened l's cursor line by its digits, behind those before it; through the rest the session stayed below level k
+-- one of the events es, which follow on t, opened l's cursor line by its digits, after those before it;
+-- through the rest the session stayed below level k
 pub record Unlocked (im : List ℕ) (t : Sitting) (es : List ℕ) (k : ℕ) (l : Level) : Type 0 where
   pub before : List ℕ
   pub opener : ℕ

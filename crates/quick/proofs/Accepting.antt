@@ -24,14 +24,14 @@ use Rattle.acceptance.proofs.Takes.{Takes, sheet-is}
 use Rattle.acceptance.proofs.Steps.{padded-reads, component-goes}
 use Rattle.quick.proofs.Marks.{covers-apart, covers-kept, covers-add}
 
--- ---- states that stand
+-- ---- states that have come as far
 
--- a state that stands has refused nothing, so the next step is taken
+-- such a state has refused nothing, so the next step is taken
 pub stands-then : {w : Tally} {m : List ℕ} {x : State} (y : State) → AsFar w m x → andThen x y ≡ y
 unfolding andThen fine
 stands-then y t = if-true y _ (rw (t .is) refl)
 
--- a state that is known stands
+-- a state that is known has come as far
 pub stands-at :
     {w : Tally} {m : List ℕ} (x : State) (at lines : ℕ) (es : List Entry) → x ≡ cameTo at lines es → at ≡ w .at → lines ≡ w .lines → length es ≡ w .fields →
     Covers m es → AsFar w m x
@@ -81,7 +81,7 @@ module _ (im : List ℕ) where
   pub even-place : (at p : ℕ) → p ≡ evenFrom at → p < length im → padded im at p ≡ true → Aligned im 0 at p
   even-place at p e i z = A .even-aligned at p (record { stands = e; zeroed = padded-reads im at p z }) i
 
-  -- ---- the components of a line: those that are left, done to a state that stands, are the whole
+  -- ---- the components of a line: those that are left, done to a state that has come as far, are the whole
 
   pub going-start : (sheet : ℕ) (u : Tally) (m : List ℕ) → AmongParts im sheet u u m m
   going-start sheet u m = record { go = λ s h t. record { here = s; fuel = length im + 1; stands = t; rest = refl; enough = omega arith } }

@@ -22,7 +22,7 @@ use Rattle.acceptance.proofs.Line.{last-marked, more-marked, submenu-marked, pl
 use Rattle.acceptance.proofs.Tables.{lines-last, lines-more}
 use Rattle.quick.proofs.Accepting.{stands-then, stands-at}
 
--- the stage behind a submenu
+-- the tally after a submenu
 abbrev pub returned : Tally → Tally → Tally
 returned body t = record { sure = t .sure; at = body .at; lines = t .lines; fields = t .fields }
 
@@ -93,7 +93,7 @@ module _ (im : List ℕ) (sheet : ℕ) where
           refl refl (v .count) (v .covers);
     }
 
-  -- ---- the lines of a table: those that are left, done to a state that stands, are the whole
+  -- ---- the lines of a table: those that are left, done to a state that has come as far, are the whole
 
   module _ (below first : ℕ) where
     abbrev pub lines : ℕ → ℕ → List ℕ → State → State

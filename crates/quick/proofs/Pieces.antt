@@ -30,7 +30,7 @@ record Plain (t : ℕ) : Type 0 where
 plain-bits : (t : ℕ) → t ≤ 2 → t % 2 ≡ 0 → Plain t
 plain-bits t few even = record { first = omega arith; last = omega arith; dynamic = omega arith; submenu = omega arith; password = omega arith }
 
--- where the pointer back stands, and the end
+-- where the pointer back is, and the end
 plain-places :
     (p t end first last dynamic submenu : ℕ) → t ≤ 2 → first ≡ 0 → 2 * last ≡ t → dynamic ≡ 0 → submenu ≡ 0 → end ≡ p + 5 - t →
     (p + 1 + 2 * (1 - last) ≡ end - 2) × (p + 1 + 2 * (1 - last) + 2 * (1 - first) + 2 * dynamic + 2 * submenu ≡ end)
@@ -122,7 +122,7 @@ module _ (im : List ℕ) where
         previous = λ _. rw (q .0) v;
       }
 
-  -- where a submenu's table stands: its pointer is the last of the options
+  -- where a submenu's table is: its pointer is the last of the options
   pub submenu-is : (p : ℕ) → hasSubmenu im p ≡ 1 → prologBytes + wordAt im (passwordAt im p - 2) ≡ submenuTable im p
   submenu-is p e = let z : passwordAt im p - 2 ≡ submenuAt im p = omega arith in rw z refl
 

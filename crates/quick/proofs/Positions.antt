@@ -1,4 +1,4 @@
--- From spot to spot of a table: a component more, the end of a line, the head of the next; and a whole line with its submenu.
+-- From position to position of a table: a component more, the end of a line, the head of the next; and a whole line with its submenu.
 use Prim.Native.Nat.{ℕ, _+_, _/_, _%_, _≤_, _<_}
 use mathlib.Core.Path.{_≡_, refl}
 use mathlib.Core.Bool.{Bool, true, false}
@@ -28,7 +28,7 @@ abbrev spot : Tally → ℕ → ℕ → Bool → Position
 spot w n line done = record { tally = w; n = n; line = line; done = done }
 
 module _ (im : List ℕ) (sheet : ℕ) where
-  -- a head ends behind its line's place
+  -- a head ends after its line's place
   head-onward : {n before p end : ℕ} → Head im n before p end → p < end
   head-onward {p = p} h = rw (agree im .head-is h .ends) at (agree im .head-reads p (agree im .head-is h .refusal) .after)
 
@@ -128,7 +128,7 @@ module _ (im : List ℕ) (sheet : ℕ) where
       Leaves im sheet below line w (tables.returned w t) mid new
   leaves-deep {below} z d = record { leave = λ few q c. tables.deep-line im sheet few q c below z d }
 
-  -- a line that is done, with its submenu: the lines behind it, or the table
+  -- a line that is done, with its submenu: the lines after it, or the table
   module _
       {below first : ℕ} {u w : Tally} {old mid new : List ℕ} {s : Position} (d : s .done ≡ true) (o : Along im sheet below first u old s mid)
       (l : Leaves im sheet below (s .line) (s .tally) w mid new) where

@@ -1,5 +1,6 @@
--- Nobody has to believe this file: the contract of `refusal_of` speaks of the check alone.
--- What the quick walk knows where it has no doubt: how far the walk of the check would have come, with marks on the sheet's bytes in place of the fields.
+-- Nobody has to believe this file: the contract of `refusal_of` speaks of the check alone. What the quick
+-- walk knows where it has no doubt: how far the walk of the check would have come, with marks on the sheet's
+-- bytes in place of the fields.
 use Prim.Native.Nat.{ℕ, _+_, _-_, _*_, _/_, _%_, _^_, _≤_, _<_}
 use mathlib.Core.Path.{_≡_}
 use mathlib.Core.Bool.{true, false}
@@ -32,7 +33,8 @@ pub record Claimed (sheet : ℕ) (old new : List ℕ) (from size : ℕ) : Type 0
 -- 01, row 8: the field of a component, if it is one, is counted, 256 at most, and its bytes are marked
 pub data Claims (sheet : ℕ) (old new : List ℕ) (before after : ℕ) : List Field → Type 0 where
   none : new ≡ old → after ≡ before → Claims sheet old new before after []
-  one : {f : Field} → before < mostFields → after ≡ before + 1 → Claimed sheet old new (f .sheet .0) (sizeOf f) → Claims sheet old new before after (f ∷ [])
+  one : {f : Field} → before < mostFields → after ≡ before + 1
+      → Claimed sheet old new (f .sheet .0) (sizeOf f) → Claims sheet old new before after (f ∷ [])
 
 -- R8: the mark of the first and the pointer back, as the grammar's Head asks them
 pub record Linked (im : List ℕ) (n before p : ℕ) : Type 0 where
@@ -40,7 +42,8 @@ pub record Linked (im : List ℕ) (n before p : ℕ) : Type 0 where
   pub later : 0 < n → isFirst im p ≡ 0
   pub previous : 0 < n → before + wordAt im (previousAt im p) ≡ p
 
--- R6, 01, row 8: a line's head that the grammar has, at the first odd place behind where the walk stands, and not the 1,025th
+-- R6, 01, row 8: a line's head that the grammar has, at the first odd place after where the walk is, and not
+-- the 1,025th
 pub record Placed (im : List ℕ) (n before p : ℕ) (w : Tally) (end : ℕ) : Type 0 where
   pub room : w .lines < mostLines
   pub inside : p < length im
@@ -54,7 +57,7 @@ pub record Passes (im : List ℕ) (sheet p : ℕ) (v w : Tally) (old new : List 
   pub lines : w .lines ≡ v .lines
   pub claims : Claims sheet old new (v .fields) (w .fields) fields
 
--- a field that the grammar has, with its place in the sheet behind the call address, and so many bytes there
+-- a field that the grammar has, with its place in the sheet after the call address, and so many bytes there
 pub record Held (im : List ℕ) (at end size : ℕ) : Type 0 where
   pub field : Field
   pub component : Component im at end (field ∷ [])
@@ -65,53 +68,65 @@ pub record Held (im : List ℕ) (at end size : ℕ) : Type 0 where
 pub data Covers (marks : List ℕ) : List Entry → Type 0 where
   none : Covers marks []
   add :
-      {e : Entry} {es : List Entry} → ((i : ℕ) → e .from .0 ≤ i → i < e .from .0 + e .size → markAt marks i ≡ 1) → Covers marks es →
+      {e : Entry} {es : List Entry} → ((i : ℕ) → e .from .0 ≤ i → i < e .from .0 + e .size
+      → markAt marks i ≡ 1) → Covers marks es →
       Covers marks (e ∷ es)
 
 -- a state of the check that has refused nothing and has come as far
 pub record AsFar (w : Tally) (marks : List ℕ) (s : State) : Type 0 where
-  pub is : s ≡ state (record { refusal = 0; at = w .at; lines = w .lines; fields = length (s .fields) }) (s .fields)
+  pub is : s ≡ state (record { refusal = 0; at = w .at; lines = w .lines; fields = length (s .fields) })
+      (s .fields)
   pub count : length (s .fields) ≡ w .fields
   pub covers : Covers marks (s .fields)
 
--- a stretch of the check's walk, for a sheet of so many bytes, goes from one stage to another
+-- a stretch of the check's walk, for a sheet of so many bytes, goes from one tally to another
 pub record Reaches (sheet : ℕ) (stretch : State → State) (v w : Tally) (old new : List ℕ) : Type 0 where
   pub reach : (s : State) → sheet ≤ longestSheet → AsFar v old s → AsFar w new (stretch s)
 
--- the stage behind a title that ends at a place
+-- the tally after a title that ends at a place
 abbrev pub titled : Tally → ℕ → Tally
 titled w end = record { sure = true; at = end; lines = w .lines; fields = w .fields }
 
--- and behind a head
+-- and after a head
 abbrev pub headed : Tally → ℕ → Tally
 headed w end = record { sure = true; at = end; lines = w .lines + 1; fields = w .fields }
 
--- all components of a line, from the one at a place on, done to a state: they are those that are left, done to a state that has come as far as a stage
+-- all components of a line, from the one at a place on, done to a state: they are those that are left, done
+-- to a state that has come as far as a tally
 pub record PartsLeft (im : List ℕ) (sheet first : ℕ) (s : State) (v : Tally) (m : List ℕ) : Type 0 where
   pub here : State
   pub fuel : ℕ
   pub stands : AsFar v m here
-  pub rest : onComponents im sheet mostFields (componentsFrom im (length im + 1) first) s ≡ onComponents im sheet mostFields (componentsFrom im fuel (evenFrom (v .at))) here
+  pub rest : onComponents im sheet mostFields (componentsFrom im (length im + 1) first) s
+      ≡ onComponents im sheet mostFields (componentsFrom im fuel (evenFrom (v .at))) here
   pub enough : length im < v .at + fuel
 
--- so it is from every state that has come as far as another stage
+-- so it is from every state that has come as far as another tally
 pub record AmongParts (im : List ℕ) (sheet : ℕ) (u v : Tally) (old new : List ℕ) : Type 0 where
   pub go : (s : State) → sheet ≤ longestSheet → AsFar u old s → PartsLeft im sheet (evenFrom (u .at)) s v new
 
--- the same of the lines of a table, of which n are done, the last of them at `before`, and the next one stands at p
-pub record LinesLeft (im : List ℕ) (sheet below first : ℕ) (s : State) (n before p : ℕ) (v : Tally) (m : List ℕ) : Type 0 where
+-- the same of the lines of a table, of which n are done, the last of them at `before`, and the next one is at
+-- p
+pub record LinesLeft (im : List ℕ) (sheet below first : ℕ) (s : State) (n before p : ℕ) (v : Tally)
+    (m : List ℕ) : Type 0 where
   pub here : State
   pub stands : AsFar v m here
   pub rest :
-      onLines im sheet mostFields (onTable im sheet mostFields below) 0 0 (linesFrom im (mostLinesOfTable + 1) first) s
-      ≡ onLines im sheet mostFields (onTable im sheet mostFields below) n before (linesFrom im (mostLinesOfTable + 1 - n) p) here
+      onLines im sheet mostFields (onTable im sheet mostFields below) 0 0
+      (linesFrom im (mostLinesOfTable + 1) first) s
+      ≡ onLines im sheet mostFields (onTable im sheet mostFields below) n before
+      (linesFrom im (mostLinesOfTable + 1 - n) p) here
 
 -- and so it is from every state
-pub record AmongLines (im : List ℕ) (sheet below first : ℕ) (u : Tally) (old : List ℕ) (n before p : ℕ) (v : Tally) (new : List ℕ) : Type 0 where
-  pub go : (s : State) → sheet ≤ longestSheet → AsFar u old s → LinesLeft im sheet below first s n before p v new
+pub record AmongLines (im : List ℕ) (sheet below first : ℕ) (u : Tally) (old : List ℕ) (n before p : ℕ)
+    (v : Tally) (new : List ℕ) : Type 0 where
+  pub go : (s : State) → sheet ≤ longestSheet → AsFar u old s
+      → LinesLeft im sheet below first s n before p v new
 
--- a spot in a table whose walk began at a stage: the lines before its own are done, its own has a head that the grammar has, and its components are done up to the spot's stage, or all
-pub record Along (im : List ℕ) (sheet below first : ℕ) (u : Tally) (old : List ℕ) (s : Position) (new : List ℕ) : Type 0 where
+-- a position in a table whose walk began at a tally: the lines before its own are done, its own has a head
+-- that the grammar has, and its components are done up to the position's tally, or all
+pub record Along (im : List ℕ) (sheet below first : ℕ) (u : Tally) (old : List ℕ) (s : Position)
+    (new : List ℕ) : Type 0 where
   pub before : ℕ
   pub end : ℕ
   pub from : Tally
@@ -120,25 +135,28 @@ pub record Along (im : List ℕ) (sheet below first : ℕ) (u : Tally) (old : Li
   pub lines : AmongLines im sheet below first u old (s .n) before (s .line) from marks
   pub head : Placed im (s .n) before (s .line) from end
   pub within : s .done ≡ false → AmongParts im sheet (headed from end) (s .tally) marks new
-  pub through : s .done ≡ true → Reaches sheet (onComponents im sheet mostFields (componentsFrom im (length im + 1) (evenFrom end))) (headed from end) (s .tally) marks new
+  pub through : s .done ≡ true → Reaches sheet
+      (onComponents im sheet mostFields (componentsFrom im (length im + 1) (evenFrom end))) (headed from end)
+      (s .tally) marks new
 
--- a spot within a line: its components are not all passed, its head and the spot itself are in the image, and there
--- is a mark for each byte of the sheet
+-- a position within a line: its components are not all passed, its head and the position itself are in the
+-- image, and there is a mark for each byte of the sheet
 pub record Within (im : List ℕ) (sheet : ℕ) (s : Position) (marks : List ℕ) : Type 0 where
   pub going : s .done ≡ false
   pub head : passwordAt im (s .line) ≤ length im
   pub inside : s .tally .at ≤ length im
   pub marked : sheet ≤ 64 * length marks
 
--- from one spot to another, in whatever table they are
+-- from one position to another, in whatever table they are
 pub record Moves (im : List ℕ) (sheet : ℕ) (s r : Position) (old new : List ℕ) : Type 0 where
   pub inside : passwordAt im (r .line) ≤ length im
   pub counted : s .n ≤ r .n
   pub onward : s .tally .at ≤ r .tally .at
   pub fits : r .tally .at ≤ length im
-  pub carry : (below first : ℕ) (u : Tally) (began : List ℕ) → Along im sheet below first u began s old → Along im sheet below first u began r new
+  pub carry : (below first : ℕ) (u : Tally) (began : List ℕ) → Along im sheet below first u began s old
+      → Along im sheet below first u began r new
 
--- a line with a plain head behind the line at a place, which has neither a submenu nor the mark of the last
+-- a line with a plain head after the line at a place, which has neither a submenu nor the mark of the last
 pub record Next (im : List ℕ) (n line : ℕ) (w : Tally) (s : Position) : Type 0 where
   pub more : isLast im line ≡ 0
   pub plain : hasSubmenu im line ≡ 0
@@ -151,6 +169,9 @@ pub record Next (im : List ℕ) (n line : ℕ) (w : Tally) (s : Position) : Type
 -- with the submenu of a line, if it has one, the whole line is done
 pub record Leaves (im : List ℕ) (sheet below line : ℕ) (w r : Tally) (mid new : List ℕ) : Type 0 where
   pub leave :
-      {n before end : ℕ} {from : Tally} {old : List ℕ} → n < mostLinesOfTable → Placed im n before line from end →
-      Reaches sheet (onComponents im sheet mostFields (componentsFrom im (length im + 1) (evenFrom end))) (headed from end) w old mid →
-      Reaches sheet (onLine im sheet mostFields (onTable im sheet mostFields below) n before line) from r old new
+      {n before end : ℕ} {from : Tally} {old : List ℕ} → n < mostLinesOfTable
+      → Placed im n before line from end →
+      Reaches sheet (onComponents im sheet mostFields (componentsFrom im (length im + 1) (evenFrom end)))
+      (headed from end) w old mid →
+      Reaches sheet (onLine im sheet mostFields (onTable im sheet mostFields below) n before line) from r old
+      new

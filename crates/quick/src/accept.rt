@@ -1,4 +1,5 @@
-// The check of an image without fault, in one quick walk: where anything gives it doubt, the check proper is asked for the refusal.
+// The check of an image without fault, in one quick walk: where anything gives it doubt, the check proper is
+// asked for the refusal.
 ghost use mathlib.Core.Path.{_≡_};
 ghost use mathlib.Core.Bool.{true, false};
 ghost use Prim.Native.Nat.{_*_, _<_, _≤_};
@@ -20,7 +21,7 @@ use cmf::title::read_title;
 use walk::check::check;
 use walk::check::prolog_code;
 
-// A spot that gives doubt.
+// A position that gives doubt.
 fn doubtful(s: Position) -> Position
     ensures { λ r. ⌜ r .tally .sure ≡ false ⌝ }
 {
@@ -32,10 +33,13 @@ fn doubtful(s: Position) -> Position
     }
 }
 
-// One component more, of any kind but an option: one that the loop has left is in doubt. It is at fault, or it has one empty item and ends the image.
+// One component more, of any kind but an option: one that the loop has left is in doubt. It is at fault, or
+// it has one empty item and ends the image.
 fn take_other(image: &[u8], sheet: usize, s: Position, marks: &mut [u64]) -> Position
     requires { ⌜ Within (now image) sheet s (now marks) ⌝ }
-    ensures { λ r. ⌜ (r .tally .sure ≡ true → Moves (now (image .entry)) sheet s r (now (marks .entry)) (now (marks .exit)) × (s .tally .at < r .tally .at)) ⌝ }
+    ensures { λ r. ⌜ (r .tally .sure ≡ true
+        → Moves (now (image .entry)) sheet s r (now (marks .entry)) (now (marks .exit))
+        × (s .tally .at < r .tally .at)) ⌝ }
 {
     let at = s.tally.at;
     let p = at + at % 2;
@@ -51,10 +55,11 @@ fn take_other(image: &[u8], sheet: usize, s: Position, marks: &mut [u64]) -> Pos
     }
 }
 
-// From a spot within a line to the end of this line, or of a later one of its table.
+// From a position within a line to the end of this line, or of a later one of its table.
 fn pass_lines(image: &[u8], sheet: usize, start: Position, marks: &mut [u64]) -> Position
     requires { ⌜ Within (now image) sheet start (now marks) ⌝ }
-    ensures { λ r. ⌜ (r .tally .sure ≡ true → (r .done ≡ true) × Moves (now (image .entry)) sheet start r (now (marks .entry)) (now (marks .exit))) ⌝ }
+    ensures { λ r. ⌜ (r .tally .sure ≡ true → (r .done ≡ true)
+        × Moves (now (image .entry)) sheet start r (now (marks .entry)) (now (marks .exit))) ⌝ }
 {
     let mut s = start;
     while s.tally.at < image.len() {
@@ -73,7 +78,8 @@ fn pass_lines(image: &[u8], sheet: usize, start: Position, marks: &mut [u64]) ->
     doubtful(s)
 }
 
-// Behind a line's components, which end where the walk stands: its submenu, if it has one; `below` levels are left for it.
+// After a line's components, which end where the walk is: its submenu, if it has one; `below` levels are left
+// for it.
 fn accept_submenu(
     image: &[u8],
     sheet: usize,
@@ -83,7 +89,8 @@ fn accept_submenu(
     marks: &mut [u64],
 ) -> Tally
     requires { ⌜ (passwordAt (now image) line ≤ length (now image)) × (sheet ≤ 64 * length (now marks)) ⌝ }
-    ensures { λ r. ⌜ (r .sure ≡ true → Leaves (now (image .entry)) sheet below line w r (now (marks .entry)) (now (marks .exit))) ⌝ }
+    ensures { λ r. ⌜ (r .sure ≡ true → Leaves (now (image .entry)) sheet below line w r (now (marks .entry))
+        (now (marks .exit))) ⌝ }
 {
     if image[line] / 8 % 2 == 1 {
         let t = accept_table(image, sheet, below, submenu_of(image, line), w, &mut *marks);
@@ -107,7 +114,9 @@ fn accept_table(
     marks: &mut [u64],
 ) -> Tally
     requires { ⌜ sheet ≤ 64 * length (now marks) ⌝ }
-    ensures { λ r. ⌜ (r .sure ≡ true → Reaches sheet (onTable (now (image .entry)) sheet mostFields left table) w r (now (marks .entry)) (now (marks .exit))) ⌝ }
+    ensures { λ r. ⌜ (r .sure ≡ true → Reaches sheet
+        (onTable (now (image .entry)) sheet mostFields left table) w r (now (marks .entry))
+        (now (marks .exit))) ⌝ }
 {
     let title = read_title(image, table);
     if title.refusal != 0 {

@@ -6,10 +6,11 @@ ghost use lib.ListN.{length};
 ghost use Rattle.quick.specs.Accept.{Claimed};
 use cmf::image::Image;
 
-// Words with a bit for each byte that a sheet may have, and for the place behind the last.
+// Words with a bit for each byte that a sheet may have, and for the place after the last.
 pub(crate) const WORDS: usize = Image::MAX_SHEET / 64 + 1;
 
-// Marks bytes of the sheet. If one of them is marked or is not there, some may be marked by then: the walk ends there.
+// Marks bytes of the sheet. If one of them is marked or is not there, some may be marked by then: the walk
+// ends there.
 pub(crate) fn claim(marks: &mut [u64], sheet: usize, from: usize, size: usize) -> bool
     requires { ⌜ sheet ≤ 64 * length (now marks) ⌝ }
     ensures { λ r. ⌜ (r ≡ true → Claimed sheet (now (marks .entry)) (now (marks .exit)) from size) ⌝ }
@@ -36,7 +37,8 @@ pub(crate) fn claim(marks: &mut [u64], sheet: usize, from: usize, size: usize) -
 // Marks one byte of the sheet; not if it is marked or is not there, and then the marks stay as they are.
 pub(crate) fn claim_byte(marks: &mut [u64], sheet: usize, at: usize) -> bool
     requires { ⌜ sheet ≤ 64 * length (now marks) ⌝ }
-    ensures { λ r. ⌜ (r ≡ true → Claimed sheet (now (marks .entry)) (now (marks .exit)) at 1) × (r ≡ false → now (marks .exit) ≡ now (marks .entry)) ⌝ }
+    ensures { λ r. ⌜ (r ≡ true → Claimed sheet (now (marks .entry)) (now (marks .exit)) at 1)
+        × (r ≡ false → now (marks .exit) ≡ now (marks .entry)) ⌝ }
 {
     if sheet <= at {
         return false;

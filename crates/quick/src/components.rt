@@ -1,4 +1,5 @@
-// The components of a line in the quick walk, but options: a constant string is told here, a field in `fixed`.
+// The components of a line in the quick walk, but options: a constant string is told here, a field in
+// `fixed`.
 ghost use mathlib.Core.Path.{_≡_};
 ghost use mathlib.Core.Bool.{true};
 ghost use mathlib.Core.List.{[]};
@@ -27,7 +28,7 @@ fn string_end(image: &[u8], at: usize) -> usize
     end
 }
 
-// The component at p, which is the first even place behind where the walk stands.
+// The component at p, which is the first even place after where the walk is.
 pub(crate) fn accept_component(
     image: &[u8],
     sheet: usize,
@@ -36,7 +37,8 @@ pub(crate) fn accept_component(
     marks: &mut [u64],
 ) -> Tally
     requires { ⌜ (p < length (now image)) × (p ≡ evenFrom (w .at)) × (sheet ≤ 64 * length (now marks)) ⌝ }
-    ensures { λ r. ⌜ (r .sure ≡ true → Aligned (now (image .entry)) 0 (w .at) p × Passes (now (image .entry)) sheet p w r (now (marks .entry)) (now (marks .exit))) ⌝ }
+    ensures { λ r. ⌜ (r .sure ≡ true → Aligned (now (image .entry)) 0 (w .at) p
+        × Passes (now (image .entry)) sheet p w r (now (marks .entry)) (now (marks .exit))) ⌝ }
 {
     let zero = is_padded(image, w.at, p);
     if !zero {

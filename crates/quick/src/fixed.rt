@@ -1,4 +1,5 @@
-// Fields of the quick walk, but options: integers, counters, times, dates and triggers, which have no texts, are told here by a few tests on their bytes.
+// Fields of the quick walk, but options: integers, counters, times, dates and triggers, which have no texts,
+// are told here by a few tests on their bytes.
 ghost use mathlib.Core.Path.{_≡_};
 ghost use mathlib.Core.Bool.{true};
 ghost use mathlib.Core.List.{[], _∷_};
@@ -8,7 +9,8 @@ ghost use Rattle.laws.specs.Bytes.{byteAt, wordAt};
 ghost use Rattle.field.specs.Cells.{biased, inRange};
 ghost use Rattle.field.specs.Settings.{stepFits, widthFits};
 ghost use Rattle.field.specs.declared.kind.Kind.the-variants.{Counter};
-ghost use Rattle.cmf.specs.Layouts.{Component, integerAt, counterSettingsAt, counterAt, timeLongAt, timeShortAt, dateLongAt, dateShortAt, triggerAt};
+ghost use Rattle.cmf.specs.Layouts.{Component, integerAt, counterSettingsAt, counterAt, timeLongAt};
+ghost use Rattle.cmf.specs.Layouts.{timeShortAt, dateLongAt, dateShortAt, triggerAt};
 ghost use Rattle.quick.specs.Accept.{Held, Passes};
 use crate::claim::claim;
 use crate::heads::word_in;
@@ -22,7 +24,8 @@ use field::settings::counted_cells;
 // Where the integer of one byte at a place ends; 0 in doubt.
 fn byte_end(image: &[u8], at: usize, code: usize) -> usize
     requires { ⌜ (at < length (now image)) × ((byteAt (now image) at % 32 ≡ code) × (code ≤ 0x04)) ⌝ }
-    ensures { λ r. ⌜ (0 < r → (at + 6 ≤ length (now (image .entry))) × Component (now (image .entry)) at r (integerAt (now (image .entry)) at ∷ [])) ⌝ }
+    ensures { λ r. ⌜ (0 < r → (at + 6 ≤ length (now (image .entry)))
+        × Component (now (image .entry)) at r (integerAt (now (image .entry)) at ∷ [])) ⌝ }
 {
     let end = at + 7;
     if image.len() < end {
@@ -37,8 +40,10 @@ fn byte_end(image: &[u8], at: usize, code: usize) -> usize
 
 // Where the integer of two bytes at a place ends; 0 in doubt.
 fn word_end(image: &[u8], at: usize, code: usize) -> usize
-    requires { ⌜ (at < length (now image)) × ((byteAt (now image) at % 32 ≡ code) × ((0x04 < code) × (code ≤ 0x0a))) ⌝ }
-    ensures { λ r. ⌜ (0 < r → (at + 6 ≤ length (now (image .entry))) × Component (now (image .entry)) at r (integerAt (now (image .entry)) at ∷ [])) ⌝ }
+    requires { ⌜ (at < length (now image))
+        × ((byteAt (now image) at % 32 ≡ code) × ((0x04 < code) × (code ≤ 0x0a))) ⌝ }
+    ensures { λ r. ⌜ (0 < r → (at + 6 ≤ length (now (image .entry)))
+        × Component (now (image .entry)) at r (integerAt (now (image .entry)) at ∷ [])) ⌝ }
 {
     let end = at + 8;
     if image.len() < end {
@@ -62,7 +67,8 @@ fn biased_in(image: &[u8], at: usize) -> usize
 // Whether the default of the counter at a place is in its range.
 fn counter_in_range(image: &[u8], at: usize) -> bool
     requires { ⌜ at + 15 ≤ length (now image) ⌝ }
-    ensures { λ r. ⌜ r ≡ inRange (Counter (counterSettingsAt (now (image .entry)) at)) (wordAt (now (image .entry)) (at + 12)) ⌝ }
+    ensures { λ r. ⌜ r ≡ inRange (Counter (counterSettingsAt (now (image .entry)) at))
+        (wordAt (now (image .entry)) (at + 12)) ⌝ }
 {
     let x = biased_in(image, at + 12);
     if biased_in(image, at + 6) <= x {
@@ -100,7 +106,8 @@ fn width_fits(image: &[u8], at: usize) -> bool
 // Where the counter at a place ends; 0 in doubt.
 fn counter_end(image: &[u8], at: usize) -> usize
     requires { ⌜ (at < length (now image)) × (byteAt (now image) at % 32 ≡ 0x0d) ⌝ }
-    ensures { λ r. ⌜ (0 < r → (at + 6 ≤ length (now (image .entry))) × Component (now (image .entry)) at r (counterAt (now (image .entry)) at ∷ [])) ⌝ }
+    ensures { λ r. ⌜ (0 < r → (at + 6 ≤ length (now (image .entry)))
+        × Component (now (image .entry)) at r (counterAt (now (image .entry)) at ∷ [])) ⌝ }
 {
     let end = at + 15;
     if image.len() < end {
@@ -124,7 +131,8 @@ fn counter_end(image: &[u8], at: usize) -> usize
 // Whether hours and minutes of the time at a place are in range.
 fn time_fits(image: &[u8], at: usize) -> bool
     requires { ⌜ at + 8 ≤ length (now image) ⌝ }
-    ensures { λ r. ⌜ (r ≡ true → (byteAt (now (image .entry)) (at + 6) ≤ 23) × (byteAt (now (image .entry)) (at + 7) ≤ 59)) ⌝ }
+    ensures { λ r. ⌜ (r ≡ true → (byteAt (now (image .entry)) (at + 6) ≤ 23)
+        × (byteAt (now (image .entry)) (at + 7) ≤ 59)) ⌝ }
 {
     if Kind::MAX_HOUR < image[at + 6] {
         return false;
@@ -135,7 +143,8 @@ fn time_fits(image: &[u8], at: usize) -> bool
 // Where the time with seconds at a place ends; 0 in doubt.
 fn time_long_end(image: &[u8], at: usize) -> usize
     requires { ⌜ (at < length (now image)) × (byteAt (now image) at % 32 ≡ 0x0f) ⌝ }
-    ensures { λ r. ⌜ (0 < r → (at + 6 ≤ length (now (image .entry))) × Component (now (image .entry)) at r (timeLongAt (now (image .entry)) at ∷ [])) ⌝ }
+    ensures { λ r. ⌜ (0 < r → (at + 6 ≤ length (now (image .entry)))
+        × Component (now (image .entry)) at r (timeLongAt (now (image .entry)) at ∷ [])) ⌝ }
 {
     let end = at + 9;
     if image.len() < end {
@@ -154,7 +163,8 @@ fn time_long_end(image: &[u8], at: usize) -> usize
 // Where the time without seconds at a place ends; 0 in doubt.
 fn time_short_end(image: &[u8], at: usize) -> usize
     requires { ⌜ (at < length (now image)) × (byteAt (now image) at % 32 ≡ 0x10) ⌝ }
-    ensures { λ r. ⌜ (0 < r → (at + 6 ≤ length (now (image .entry))) × Component (now (image .entry)) at r (timeShortAt (now (image .entry)) at ∷ [])) ⌝ }
+    ensures { λ r. ⌜ (0 < r → (at + 6 ≤ length (now (image .entry)))
+        × Component (now (image .entry)) at r (timeShortAt (now (image .entry)) at ∷ [])) ⌝ }
 {
     let end = at + 8;
     if image.len() < end {
@@ -170,7 +180,9 @@ fn time_short_end(image: &[u8], at: usize) -> usize
 // Whether day and month of the date at a place are in range.
 fn date_fits(image: &[u8], at: usize) -> bool
     requires { ⌜ at + 8 ≤ length (now image) ⌝ }
-    ensures { λ r. ⌜ (r ≡ true → ((1 ≤ byteAt (now (image .entry)) (at + 6)) × (byteAt (now (image .entry)) (at + 6) ≤ 31)) × ((1 ≤ byteAt (now (image .entry)) (at + 7)) × (byteAt (now (image .entry)) (at + 7) ≤ 12))) ⌝ }
+    ensures { λ r. ⌜ (r ≡ true → ((1 ≤ byteAt (now (image .entry)) (at + 6))
+        × (byteAt (now (image .entry)) (at + 6) ≤ 31))
+        × ((1 ≤ byteAt (now (image .entry)) (at + 7)) × (byteAt (now (image .entry)) (at + 7) ≤ 12))) ⌝ }
 {
     let day = image[at + 6];
     if day < 1 {
@@ -189,7 +201,8 @@ fn date_fits(image: &[u8], at: usize) -> bool
 // Where the date with a year of two bytes at a place ends; 0 in doubt.
 fn date_long_end(image: &[u8], at: usize) -> usize
     requires { ⌜ (at < length (now image)) × (byteAt (now image) at % 32 ≡ 0x11) ⌝ }
-    ensures { λ r. ⌜ (0 < r → (at + 6 ≤ length (now (image .entry))) × Component (now (image .entry)) at r (dateLongAt (now (image .entry)) at ∷ [])) ⌝ }
+    ensures { λ r. ⌜ (0 < r → (at + 6 ≤ length (now (image .entry)))
+        × Component (now (image .entry)) at r (dateLongAt (now (image .entry)) at ∷ [])) ⌝ }
 {
     let end = at + 10;
     if image.len() < end {
@@ -208,7 +221,8 @@ fn date_long_end(image: &[u8], at: usize) -> usize
 // Where the date with a year of one byte at a place ends; 0 in doubt.
 fn date_short_end(image: &[u8], at: usize) -> usize
     requires { ⌜ (at < length (now image)) × (byteAt (now image) at % 32 ≡ 0x12) ⌝ }
-    ensures { λ r. ⌜ (0 < r → (at + 6 ≤ length (now (image .entry))) × Component (now (image .entry)) at r (dateShortAt (now (image .entry)) at ∷ [])) ⌝ }
+    ensures { λ r. ⌜ (0 < r → (at + 6 ≤ length (now (image .entry)))
+        × Component (now (image .entry)) at r (dateShortAt (now (image .entry)) at ∷ [])) ⌝ }
 {
     let end = at + 9;
     if image.len() < end {
@@ -233,7 +247,8 @@ struct Extent {
 // A field, no option, that has bytes in the sheet.
 fn extent_of(image: &[u8], at: usize) -> Extent
     requires { ⌜ at < length (now image) ⌝ }
-    ensures { λ r. ⌜ (0 < r .end → (at + 6 ≤ length (now (image .entry))) × Held (now (image .entry)) at (r .end) (r .size)) ⌝ }
+    ensures { λ r. ⌜ (0 < r .end → (at + 6 ≤ length (now (image .entry)))
+        × Held (now (image .entry)) at (r .end) (r .size)) ⌝ }
 {
     let code = (image[at] % 32) as usize;
     if code <= 0x04 {
@@ -298,7 +313,8 @@ pub(crate) fn accept_field(
     marks: &mut [u64],
 ) -> Tally
     requires { ⌜ (p < length (now image)) × (sheet ≤ 64 * length (now marks)) ⌝ }
-    ensures { λ r. ⌜ (r .sure ≡ true → Passes (now (image .entry)) sheet p w r (now (marks .entry)) (now (marks .exit))) ⌝ }
+    ensures { λ r. ⌜ (r .sure ≡ true → Passes (now (image .entry)) sheet p w r (now (marks .entry))
+        (now (marks .exit))) ⌝ }
 {
     if Image::MAX_FIELDS <= w.fields {
         return Tally::doubt();

@@ -20,7 +20,7 @@ pub(crate) fn word_in(image: &[u8], at: usize) -> usize
     image[at] as usize + 256 * (image[at + 1] as usize)
 }
 
-// Whether a place is the first odd one from `at` on, which follows at once or behind a zero byte.
+// Whether a place is the first odd one from `at` on, which follows at once or after a zero byte.
 fn is_padded_to_odd(image: &[u8], at: usize, place: usize) -> bool
     requires { ⌜ place < length (now image) ⌝ }
     ensures { λ r. ⌜ (r ≡ true → Aligned (now (image .entry)) 1 at place) ⌝ }
@@ -36,10 +36,13 @@ fn is_padded_to_odd(image: &[u8], at: usize, place: usize) -> bool
     false
 }
 
-// Where the head of a later line at p ends, if it stands behind `at` and has no mark but that of the last; 0 in doubt. It has five bytes, and two less with that mark, whose weight is 2: there is no pointer on.
+// Where the head of a later line at p ends, if it is after `at` and has no mark but that of the last; 0 in
+// doubt. It has five bytes, and two less with that mark, whose weight is 2: there is no pointer on.
 pub(crate) fn plain_end(image: &[u8], before: usize, p: usize, at: usize) -> usize
     requires { ⌜ (before < length (now image)) × (before ≤ p) × (p < before + 65536) ⌝ }
-    ensures { λ r. ⌜ (0 < r → (p < length (now (image .entry))) × (Aligned (now (image .entry)) 1 at p × ((n : ℕ) → 0 < n → Head (now (image .entry)) n before p r))) ⌝ }
+    ensures { λ r. ⌜ (0 < r → (p < length (now (image .entry)))
+        × (Aligned (now (image .entry)) 1 at p × ((n : ℕ) → 0 < n → Head (now (image .entry)) n before p r)))
+        ⌝ }
 {
     if image.len() < p + 5 {
         return 0;
@@ -62,7 +65,8 @@ pub(crate) fn plain_end(image: &[u8], before: usize, p: usize, at: usize) -> usi
     0
 }
 
-// Whether the mark of the first and the pointer back of the line at p agree with its place; n lines of its table come before it.
+// Whether the mark of the first and the pointer back of the line at p agree with its place; n lines of its
+// table come before it.
 fn is_linked(image: &[u8], n: usize, before: usize, p: usize) -> bool
     requires { ⌜ (passwordAt (now image) p ≤ length (now image)) × (before ≤ p) ⌝ }
     ensures { λ r. ⌜ (r ≡ true → Linked (now (image .entry)) n before p) ⌝ }
@@ -129,7 +133,7 @@ fn any_end(image: &[u8], n: usize, before: usize, p: usize) -> usize
     0
 }
 
-// Where the head of a line at p ends, if the line stands behind where the walk does and may be counted; 0 in doubt.
+// Where the head of a line at p ends, if the line follows where the walk is and may be counted; 0 in doubt.
 pub(crate) fn accept_head(image: &[u8], n: usize, before: usize, p: usize, w: Tally) -> usize
     requires { ⌜ before ≤ p ⌝ }
     ensures { λ r. ⌜ (0 < r → Placed (now (image .entry)) n before p w r) ⌝ }
@@ -155,7 +159,7 @@ pub(crate) fn submenu_of(image: &[u8], p: usize) -> usize
     Image::PROLOG + word_in(image, options_end(image, p) - 2)
 }
 
-// The place of the line behind the one at p, which is not the last.
+// The place of the line after the one at p, which is not the last.
 pub(crate) fn next_of(image: &[u8], p: usize) -> usize
     requires { ⌜ (passwordAt (now image) p ≤ length (now image)) × (isLast (now image) p ≡ 0) ⌝ }
     ensures { λ r. ⌜ (r ≡ nextLine (now (image .entry)) p) × (p ≤ r) × (r < p + 65536) ⌝ }

@@ -1,4 +1,5 @@
-// The quick walk: it tells an image without fault by a few tests on its bytes, and leaves every other to the check.
+// The quick walk: it tells an image without fault by a few tests on its bytes, and leaves every other to the
+// check.
 pub mod accept;
 mod claim;
 mod components;

@@ -1,4 +1,4 @@
-// Where the quick walk stands in a table.
+// Where the quick walk is in a table.
 ghost use mathlib.Core.Path.{_≡_};
 ghost use mathlib.Core.Bool.{false};
 ghost use Prim.Native.Nat.{_<_};
@@ -15,7 +15,7 @@ pub struct Position {
 }
 
 impl Position {
-    // Behind the head of a line, which ends at a place.
+    // After the head of a line, which ends at a place.
     pub(crate) fn headed(w: Tally, n: usize, line: usize, end: usize) -> Self
         requires { ⌜ w .lines < mostLines ⌝ }
         ensures { λ r. ⌜ r ≡ record { tally = headed w end; n = n; line = line; done = false } ⌝ }

@@ -1,4 +1,5 @@
-// The quick walk's own loop: constant strings, options and plain heads, one behind the other, with no call for anything else in it.
+// The quick walk's own loop: constant strings, options and plain heads, one after the other, with no call for
+// anything else in it.
 ghost use mathlib.Core.Path.{_≡_};
 ghost use mathlib.Core.Bool.{true, false};
 ghost use Prim.Native.Nat.{_+_, _*_, _%_, _<_, _≤_};
@@ -19,8 +20,10 @@ use cmf::image::Image;
 
 // The option at p with its byte in the sheet; in doubt no byte is marked.
 fn take_option(image: &[u8], sheet: usize, p: usize, w: Tally, marks: &mut [u64]) -> Tally
-    requires { ⌜ (p + 10 < length (now image)) × (byteAt (now image) p % 32 ≡ 0x14) × (sheet ≤ 64 * length (now marks)) ⌝ }
-    ensures { λ r. ⌜ (r .sure ≡ true → Passes (now (image .entry)) sheet p w r (now (marks .entry)) (now (marks .exit))) × (r .sure ≡ false → now (marks .exit) ≡ now (marks .entry)) ⌝ }
+    requires { ⌜ (p + 10 < length (now image)) × (byteAt (now image) p % 32 ≡ 0x14)
+        × (sheet ≤ 64 * length (now marks)) ⌝ }
+    ensures { λ r. ⌜ (r .sure ≡ true → Passes (now (image .entry)) sheet p w r (now (marks .entry))
+        (now (marks .exit))) × (r .sure ≡ false → now (marks .exit) ≡ now (marks .entry)) ⌝ }
 {
     if Image::MAX_FIELDS <= w.fields {
         return Tally::doubt();
@@ -40,8 +43,10 @@ fn take_option(image: &[u8], sheet: usize, p: usize, w: Tally, marks: &mut [u64]
 
 // The component at p with its tag, if it is a constant string or an option without fault; no other is taken.
 fn take_plain(image: &[u8], sheet: usize, p: usize, tag: u8, w: Tally, marks: &mut [u64]) -> Tally
-    requires { ⌜ (p + 10 < length (now image)) × (tag ≡ byteAt (now image) p) × (sheet ≤ 64 * length (now marks)) ⌝ }
-    ensures { λ r. ⌜ (r .sure ≡ true → Passes (now (image .entry)) sheet p w r (now (marks .entry)) (now (marks .exit))) × (r .sure ≡ false → now (marks .exit) ≡ now (marks .entry)) ⌝ }
+    requires { ⌜ (p + 10 < length (now image)) × (tag ≡ byteAt (now image) p)
+        × (sheet ≤ 64 * length (now marks)) ⌝ }
+    ensures { λ r. ⌜ (r .sure ≡ true → Passes (now (image .entry)) sheet p w r (now (marks .entry))
+        (now (marks .exit))) × (r .sure ≡ false → now (marks .exit) ≡ now (marks .entry)) ⌝ }
 {
     if tag % 64 == 0x15 {
         let end = p + 2 + image[p + 1] as usize;
@@ -58,7 +63,7 @@ fn take_plain(image: &[u8], sheet: usize, p: usize, tag: u8, w: Tally, marks: &m
     Tally::doubt()
 }
 
-// Whether what stands at the first even place from `at` on follows it at once or behind a zero byte.
+// Whether what is at the first even place from `at` on follows it at once or after a zero byte.
 fn is_padded_to_even(image: &[u8], at: usize) -> bool
     requires { ⌜ at + 1 < length (now image) ⌝ }
     ensures { λ r. ⌜ (r ≡ true → Aligned (now (image .entry)) 0 at (evenFrom at)) ⌝ }
@@ -69,10 +74,12 @@ fn is_padded_to_even(image: &[u8], at: usize) -> bool
     image[at] == 0
 }
 
-// Behind the line at a place, which is done: the line that it leads to, where its head is a plain one; where not, the spot at the line's end.
+// After the line at a place, which is done: the line that it leads to, where its head is a plain one; where
+// not, the position at the line's end.
 fn next_plain(image: &[u8], n: usize, line: usize, w: Tally) -> Position
     requires { ⌜ passwordAt (now image) line ≤ length (now image) ⌝ }
-    ensures { λ r. ⌜ (r .done ≡ false → Next (now (image .entry)) n line w r) × (r .done ≡ true → r ≡ record { tally = w; n = n; line = line; done = true }) ⌝ }
+    ensures { λ r. ⌜ (r .done ≡ false → Next (now (image .entry)) n line w r)
+        × (r .done ≡ true → r ≡ record { tally = w; n = n; line = line; done = true }) ⌝ }
 {
     let behind = Position {
         tally: w,
@@ -110,7 +117,8 @@ fn next_plain(image: &[u8], n: usize, line: usize, w: Tally) -> Position
     }
 }
 
-// From a spot within a line as far as all is usual and eleven bytes of a component, the fewest that an option has, and one before them are in the image.
+// From a position within a line as far as all is plain and eleven bytes of a component, the fewest that an
+// option has, and one before them are in the image.
 pub(crate) fn run(image: &[u8], sheet: usize, start: Position, marks: &mut [u64]) -> Position
     requires { ⌜ Within (now image) sheet start (now marks) ⌝ }
     ensures { λ r. ⌜ Moves (now (image .entry)) sheet start r (now (marks .entry)) (now (marks .exit)) ⌝ }

@@ -3,7 +3,8 @@ ghost use mathlib.Core.Path.{_≡_};
 ghost use mathlib.Core.Bool.{false};
 ghost use Rattle.quick.specs.Accept.{titled};
 
-// How far the walk came: where the last thing ended, how many lines and fields there are. Not good: something gave it doubt.
+// How far the walk came: where the last thing ended, how many lines and fields there are. Not good: something
+// gave it doubt.
 pub struct Tally {
     pub sure: bool,
     pub at: usize,
@@ -23,7 +24,7 @@ impl Tally {
         }
     }
 
-    // Behind a title that ends at a place.
+    // After a title that ends at a place.
     pub(crate) fn titled(self, end: usize) -> Self
         ensures { λ r. ⌜ r ≡ titled self end ⌝ }
     {

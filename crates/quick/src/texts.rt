@@ -17,7 +17,8 @@ fn longer(a: usize, b: usize) -> usize
     if a < b { b } else { a }
 }
 
-// One more than the length of the longest of so many texts, one at least, that fill the bytes from one place up to another; 0 in doubt.
+// One more than the length of the longest of so many texts, one at least, that fill the bytes from one place
+// up to another; 0 in doubt.
 fn longest_of(image: &[u8], from: usize, end: usize, count: u8) -> usize
     requires { ⌜ (from < length (now image)) × (end ≤ length (now image)) ⌝ }
     ensures { λ r. ⌜ (0 < r → Texts (now (image .entry)) count from end (r - 1)) ⌝ }
@@ -72,7 +73,8 @@ fn is_in_bits(x: usize, bits: u8) -> bool
 // Whether the switch at a place has a count of bits that it may have, and a default in them.
 fn switch_fits(image: &[u8], at: usize) -> bool
     requires { ⌜ at + 14 ≤ length (now image) ⌝ }
-    ensures { λ r. ⌜ (r ≡ true → settingsFit (switchAt (now (image .entry)) at .kind) (switchAt (now (image .entry)) at .default) ≡ true) ⌝ }
+    ensures { λ r. ⌜ (r ≡ true → settingsFit (switchAt (now (image .entry)) at .kind)
+        (switchAt (now (image .entry)) at .default) ≡ true) ⌝ }
 {
     let bits = image[at + 7];
     if bits < 1 {
@@ -90,7 +92,8 @@ fn switch_fits(image: &[u8], at: usize) -> bool
 // Where the switch at a place ends; 0 in doubt.
 pub(crate) fn switch_end(image: &[u8], at: usize) -> usize
     requires { ⌜ (at < length (now image)) × (byteAt (now image) at % 32 ≡ 0x13) ⌝ }
-    ensures { λ r. ⌜ (0 < r → (at + 6 ≤ length (now (image .entry))) × Component (now (image .entry)) at r (switchAt (now (image .entry)) at ∷ [])) ⌝ }
+    ensures { λ r. ⌜ (0 < r → (at + 6 ≤ length (now (image .entry)))
+        × Component (now (image .entry)) at r (switchAt (now (image .entry)) at ∷ [])) ⌝ }
 {
     if image.len() <= at + 14 {
         return 0;

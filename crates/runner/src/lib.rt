@@ -1,5 +1,5 @@
-// Runs the cases that standard input holds, and prints a line for each: its name and what the calls answer. A program over it has
-// its cases in its `stdin`, and in its `stdout` the lines that the gate compares.
+// Runs the cases that standard input holds, and prints a line for each: its name and what the calls answer. A
+// program over it has its cases in its `stdin`, and in its `stdout` the lines that the gate compares.
 mod playing;
 
 use field::kind::ImagePlace;
@@ -16,8 +16,8 @@ use session_bytes::layout::SIZE;
 use session_bytes::read::read_session;
 use walk::check::check;
 
-// A case: check an image, ask for an option's text, open an image on a sheet of bytes 0xEE, draw a session on a picture of
-// bytes 0xEE, play a list of events from Open on, or step a session by one event.
+// A case: check an image, ask for an option's text, open an image on a sheet of bytes 0xEE, draw a session on
+// a picture of bytes 0xEE, play a list of events from Open on, or step a session by one event.
 const CHECK: u8 = 1;
 
 const TEXT: u8 = 2;
@@ -165,7 +165,8 @@ fn run_draw(image: &[u8], sheet: &mut [u8]) {
     run_drawn_on(image, sheet, session, &mut picture, length);
 }
 
-// Runs an operation on image and sheet; Open and a list of events take columns and lines in place of place and item.
+// Runs an operation on image and sheet; Open and a list of events take columns and lines in place of place
+// and item.
 fn run(op: u8, image: &[u8], sheet: &mut [u8], place: usize, item: usize) {
     match op {
         CHECK => run_check(image, sheet),
@@ -195,8 +196,8 @@ fn run_on(
     }
 }
 
-// One case: its operation, the length of its name and the name; lengths of image and sheet, place and item, two bytes each; the image.
-// False at the end of the input.
+// One case: its operation, the length of its name and the name; lengths of image and sheet, place and item,
+// two bytes each; the image. False at the end of the input.
 fn run_case(image: &mut [u8], sheet: &mut [u8]) -> bool {
     let mut head = [0u8; 2];
     let got = io::read_full(STDIN_FILENO, &mut head);

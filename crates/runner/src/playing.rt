@@ -1,5 +1,6 @@
-// Cases of Event: a list of events played from Open on, and one event on a given session. An answer is printed as 't' for taken,
-// 'f' for flash, 'd' and the image place for finished, '!' and the image place for fired, 'r' and the number for refused.
+// Cases of Event: a list of events played from Open on, and one event on a given session. An answer is
+// printed as 't' for taken, 'f' for flash, 'd' and the image place for finished, '!' and the image place for
+// fired, 'r' and the number for refused.
 use crate::PICTURE;
 use crate::fill;
 use crate::print_hex;
@@ -49,8 +50,8 @@ fn play_one(image: &[u8], sheet: &mut [u8], session: Session, number: u8) -> Ses
     stepped.session
 }
 
-// Plays the events one after another, each on the session and sheet that the one before it left; prints the answers,
-// and hands back the session reached.
+// Plays the events one after another, each on the session and sheet that the one before it left; prints the
+// answers, and hands back the session reached.
 fn play(image: &[u8], sheet: &mut [u8], start: Session, events: &[u8]) -> Session {
     let mut session = start;
     let mut i = 0;
@@ -109,8 +110,8 @@ fn print_session(session: Session) {
     print_hex(&record);
 }
 
-// One event on the session and sheet of the input, which goes on as that of Draw does, with the event in two bytes for
-// the picture's length: the answer, the sheet afterwards, and the session handed back.
+// One event on the session and sheet of the input, which goes on as that of Draw does, with the event in two
+// bytes for the picture's length: the answer, the sheet afterwards, and the session handed back.
 pub fn run_step(image: &[u8], sheet: &mut [u8]) {
     io::read_full(STDIN_FILENO, &mut *sheet);
     let number = read_number();

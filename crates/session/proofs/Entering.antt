@@ -39,7 +39,7 @@ module _ (im ds : List ℕ) (at : ℕ) where
       go (yes q) below = rw (ne-eqb (byteAt im (at + n)) (0x30 + getD ds n 0) (rw q at d)) (and-none (rightTo im at ds n))
       go (no q) below = and-false _ (below (omega arith))
 
-  -- past the image stands no digit
+  -- past the image there is no digit
   pub right-out : (i n : ℕ) → i < n → length im ≤ at + i → rightTo im at ds n ≡ false
   right-out i n h l = right-bad i n h (λ e. omega (arith, e, byte-past im (at + i) l))
 

@@ -131,7 +131,7 @@ module _ (ds : List ℕ) where
       go (yes q) below = rw (lt-leb (getD ds n 0) 9 (rw q at d)) (and-none (digitsTo ds n))
       go (no q) below = and-false _ (below (omega arith))
 
--- the head of a level's cursor line, read where that line stands
+-- the head of a level's cursor line, read where that line is
 pub head-there : (im : List ℕ) (l m : Level) (p : ℕ) (h : Head) → m ≡ l → p ≡ cursorLine im m → h ≡ headAt im p → h ≡ cursorHead im l
 unfolding cursorHead
 head-there im l m p h e f g = g ∙ rw (f, e)

@@ -1,4 +1,5 @@
--- What an event makes of a session: the answers, and a session with something changed (01, The four calls and Keys).
+-- What an event makes of a session: the answers, and a session with something changed (01, The four calls and
+-- Keys).
 use Prim.Native.Nat.{ℕ, _+_}
 use mathlib.Core.Bool.{Bool, true, false}
 use mathlib.Core.List.{List}
@@ -12,8 +13,9 @@ use Rattle.session.specs.declared.answer.Answer.{Answer}
 use Rattle.session.specs.declared.answer.Answer.the-variants as answer
 use Rattle.session.specs.declared.answer.Stepped.{Stepped}
 
--- an answer's number, with its image place or refusal number added: 0, 1, 65,536 and 131,072 are those of request 2; a refusal has 2^24 added, so
--- that answers in an accepted image, whose places are below 32,768, never share a number (`proofs/Answers`)
+-- an answer's number, with its image place or refusal number added: 0, 1, 65,536 and 131,072 are those of
+-- request 2; a refusal has 2^24 added, so that answers in an accepted image, whose places are below 32,768,
+-- never share a number (`proofs/Answers`)
 abbrev pub finishedFrom : ℕ
 finishedFrom = 65536
 

@@ -35,25 +35,29 @@ upStep s = if s .here .cursor =? 0 then flash s else taken (cursorOn s (s .here 
 
 unfoldable pub downStep : List ℕ → Session → Stepped
 downStep im s =
-    if s .here .cursor + 1 <? lineCount im (s .here .table .0) then taken (cursorOn s (s .here .cursor + 1)) else flash s
+    if s .here .cursor + 1 <? lineCount im (s .here .table .0) then taken (cursorOn s (s .here .cursor + 1))
+    else flash s
 
 -- ---- tables
 
 -- R22: LEFT shows the table above as it was left, and flashes at the top
 unfoldable pub leftStep : Session → Stepped
 leftStep s =
-    if s .outer =? 0 then flash s else taken (showing s (s .outer - 1) (s .above) (getD (s .above) (s .outer - 1) noLevel))
+    if s .outer =? 0 then flash s else taken
+    (showing s (s .outer - 1) (s .above) (getD (s .above) (s .outer - 1) noLevel))
 
 -- a submenu is shown at its first line; an accepted image has none below the eighth table
 unfoldable pub descended : Session → ℕ → Stepped
 descended s t =
-    if s .outer + 1 <? deepestTable then taken (showing s (s .outer + 1) (set (s .above) (s .outer) (s .here)) (level t 0 0)) else flash s
+    if s .outer + 1 <? deepestTable then taken
+    (showing s (s .outer + 1) (set (s .above) (s .outer) (s .here)) (level t 0 0)) else flash s
 
 -- RIGHT enters a submenu; R24: on a protected line it begins an entry, with no digit typed
 unfoldable pub rightStep : List ℕ → Session → Stepped
 rightStep im s =
     if cursorHead im (s .here) .submenu then
-    (if cursorHead im (s .here) .protected then taken (inEntry s 0 (s .typed)) else descended s (cursorHead im (s .here) .table))
+    (if cursorHead im (s .here) .protected then taken (inEntry s 0 (s .typed))
+    else descended s (cursorHead im (s .here) .table))
     else flash s
 
 -- ---- visits

@@ -1,4 +1,5 @@
--- 01, A session fits when: one definition for each clause, in the paper's order; the idle count needs none, since it is a byte. Nothing more is asked.
+-- 01, A session fits when: one definition for each clause, in the paper's order; the idle count needs none,
+-- since it is a byte. Nothing more is asked.
 use Prim.Native.Nat.{ℕ, zero, suc, _+_, _-_}
 use mathlib.Core.Bool.{Bool, true, false}
 use mathlib.Core.List.{List, [], _∷_}
@@ -34,7 +35,8 @@ mostDisplayLines = 4
 
 unfoldable pub shapeFits : ℕ → ℕ → Bool
 shapeFits columns lines =
-    ((leastColumns ≤? columns) and (columns ≤? mostColumns)) and ((leastLines ≤? lines) and (lines ≤? mostDisplayLines))
+    ((leastColumns ≤? columns) and (columns ≤? mostColumns))
+    and ((leastLines ≤? lines) and (lines ≤? mostDisplayLines))
 
 -- the place of a level's cursor line, and that line's head
 abbrev pub cursorLine : List ℕ → Level → ℕ
@@ -43,43 +45,51 @@ cursorLine im l = lineAt im (l .table .0) (l .cursor)
 unfoldable pub cursorHead : List ℕ → Level → Head
 cursorHead im l = headAt im (cursorLine im l)
 
--- a level shows the table at t: its cursor line exists, and so does the first shown line, the cursor being within the lines - 1 shown
+-- a level shows the table at t: its cursor line exists, and so does the first shown line, the cursor being
+-- within the lines - 1 shown
 unfoldable pub levelFits : List ℕ → ℕ → ℕ → Level → Bool
 levelFits im lines t l =
     (l .table .0 =? t)
-    and ((l .cursor <? lineCount im t) and ((l .first ≤? l .cursor) and (l .cursor <? l .first + (lines - 1))))
+    and ((l .cursor <? lineCount im t) and
+    ((l .first ≤? l .cursor) and (l .cursor <? l .first + (lines - 1))))
 
 -- from the table at t on each next level's table is the submenu of the cursor line before it
 unfoldable pub levelsFit : List ℕ → ℕ → ℕ → List Level → Level → Bool
 levelsFit im lines t [] here = levelFits im lines t here
 levelsFit im lines t (l ∷ ls) here =
-    levelFits im lines t l and (cursorHead im l .submenu and levelsFit im lines (cursorHead im l .table) ls here)
+    levelFits im lines t l and (cursorHead im l .submenu
+    and levelsFit im lines (cursorHead im l .table) ls here)
 
 -- 1 to 8 tables that begin with the top table
 unfoldable pub tablesFit : List ℕ → Session → Bool
-tablesFit im s = (s .outer <? deepestTable) and levelsFit im (s .lines) prologBytes (take (s .outer) (s .above)) (s .here)
+tablesFit im s = (s .outer <? deepestTable)
+    and levelsFit im (s .lines) prologBytes (take (s .outer) (s .above)) (s .here)
 
 -- a place is one of a list
 unfoldable pub isIn : ℕ → List ℕ → Bool
 isIn p [] = false
 isIn p (q ∷ qs) = if q =? p then true else isIn p qs
 
--- the working copy of a visit has a chosen cell or part of the field, and legal cells; a trigger has no value, so nothing is asked of its cells
+-- the working copy of a visit has a chosen cell or part of the field, and legal cells; a trigger has no
+-- value, so nothing is asked of its cells
 unfoldable pub workFits : Kind → Work → Bool
 workFits k w = (w .at <? profileOf k .cells) and (if profileOf k .fires then true else legal k (w .cells))
 
--- an open visit, with working copy w, is of an editable field or trigger on the cursor line; `line` is where that line stands, here and below
+-- an open visit, with working copy w, is of an editable field or trigger on the cursor line; `line` is where
+-- that line is, here and below
 unfoldable pub visitFits : List ℕ → ℕ → Work → ℕ → Bool
 visitFits im line w p =
     isIn p (componentsOf im line)
-    and (componentAt im p .fielded and (componentAt im p .editable and workFits (componentAt im p .field .kind) w))
+    and (componentAt im p .fielded and (componentAt im p .editable
+    and workFits (componentAt im p .field .kind) w))
 
 -- the first n numbers are digits
 unfoldable pub digitsTo : List ℕ → ℕ → Bool
 digitsTo ds zero = true
 digitsTo ds (suc n) = digitsTo ds n and (getD ds n 0 ≤? lastDigitKey)
 
--- a password entry is for a protected submenu of the cursor line and keeps the digits typed, fewer than it has
+-- a password entry is for a protected submenu of the cursor line and keeps the digits typed, fewer than it
+-- has
 unfoldable pub entryFits : List ℕ → ℕ → List ℕ → ℕ → Bool
 entryFits im line typed n =
     headAt im line .protected and ((n <? byteAt im (headAt im line .password)) and digitsTo typed n)

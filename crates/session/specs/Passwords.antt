@@ -16,7 +16,7 @@ use Rattle.session.specs.declared.session.Mode.the-variants as mode
 use Rattle.session.specs.declared.session.Session.{Session}
 use Rattle.session.specs.declared.answer.Stepped.{Stepped}
 
--- the first n digits typed are those of the password whose digits stand from a place on
+-- the first n digits typed are those of the password whose digits are from a place on
 unfoldable pub rightTo : List ℕ → ℕ → List ℕ → ℕ → Bool
 rightTo im at ds zero = true
 rightTo im at ds (suc n) = rightTo im at ds n and (byteAt im (at + n) =? digit0 + getD ds n 0)
@@ -28,9 +28,10 @@ entryOver s ds = inMode s mode.Browsing (s .work) ds
 -- all digits are typed: the submenu opens if they are right, else the entry ends with a flash
 unfoldable pub lastDigit : List ℕ → Session → Head → List ℕ → ℕ → Stepped
 lastDigit im s h ds n =
-    if rightTo im (h .password + 1) ds n then descended (entryOver s ds) (h .table) else flash (entryOver s ds)
+    if rightTo im (h .password + 1) ds n then descended (entryOver s ds) (h .table)
+    else flash (entryOver s ds)
 
--- a digit behind n others
+-- a digit after n others
 unfoldable pub digitStep : List ℕ → Session → Head → ℕ → ℕ → Stepped
 digitStep im s h n d =
     if n + 1 <? byteAt im (h .password) then taken (inEntry s (n + 1) (set (s .typed) n d))

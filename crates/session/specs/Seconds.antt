@@ -31,8 +31,10 @@ atTop s = showing s 0 (s .above) (level prologBytes 0 0)
 
 -- while browsing, delay-to-top leads to the top; R25: the count stays as it is
 unfoldable pub browseSecond : List ℕ → Session → Stepped
-browseSecond im s = if delayOver (imageOf im .delays .top) (later (s .idle)) then taken (atTop (waited s)) else taken (waited s)
+browseSecond im s = if delayOver (imageOf im .delays .top) (later (s .idle)) then taken (atTop (waited s))
+    else taken (waited s)
 
 -- during an entry, delay-password ends it, and nothing else happens
 unfoldable pub entrySecond : List ℕ → Session → Stepped
-entrySecond im s = if delayOver (imageOf im .delays .password) (later (s .idle)) then taken (browsing (waited s)) else taken (waited s)
+entrySecond im s = if delayOver (imageOf im .delays .password) (later (s .idle))
+    then taken (browsing (waited s)) else taken (waited s)

@@ -1,4 +1,5 @@
--- 01, The four calls: what an event makes of a session that fits, and of the sheet, by the mode that the session is in.
+-- 01, The four calls: what an event makes of a session that fits, and of the sheet, by the mode that the
+-- session is in.
 use Prim.Native.Nat.{ℕ}
 use mathlib.Core.List.{List}
 use Rattle.session.specs.Browsing.{browseStep}

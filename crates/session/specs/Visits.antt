@@ -23,7 +23,8 @@ use Rattle.session.specs.declared.session.Session.{Session}
 use Rattle.session.specs.declared.answer.Answer.the-variants as answer
 use Rattle.session.specs.declared.answer.Stepped.{Stepped}
 
--- each key has its rule in `field`: the cursor keys and digits go by the rows of the kind and of the chosen cell, ENTER by the kind; R26: POINT flashes
+-- each key has its rule in `field`: the cursor keys and digits go by the rows of the kind and of the chosen
+-- cell, ENTER by the kind; R26: POINT flashes
 unfoldable pub pressed : Kind → Work → ℕ → Pressed
 pressed k w e =
     if e =? up then key.upKey (profileOf k) (cellOf k (w .at)) w
@@ -42,7 +43,8 @@ movedTo im sheet s Nothing = browsing s
 unfoldable pub movedOn : List ℕ → List ℕ → Session → ℕ → Session
 movedOn im sheet s p = movedTo im sheet s (nextEditable im p)
 
--- what follows from a key's outcome with this working copy. The last ENTER stores, and R28: a trigger that is passed by is no finished visit
+-- what follows from a key's outcome with this working copy. The last ENTER stores, and R28: a trigger that is
+-- passed by is no finished visit
 unfoldable pub followed : List ℕ → List ℕ → Session → ImagePlace → Field → Work → Outcome → Stepped
 followed im sheet s p f w outcome.Taken = taken (inVisit s p w)
 followed im sheet s p f w outcome.Flash = flash s
@@ -69,9 +71,11 @@ pressedAt im s p e = pressed (componentAt im (p .0) .field .kind) (s .work) e
 unfoldable pub visitStep : List ℕ → List ℕ → Session → ImagePlace → ℕ → Stepped
 visitStep im sheet s p e =
     if e =? second then taken s
-    else followed im sheet (withIdle s 0) p (componentAt im (p .0) .field) (pressedAt im s p e .work) (pressedAt im s p e .outcome)
+    else followed im sheet (withIdle s 0) p (componentAt im (p .0) .field) (pressedAt im s p e .work)
+    (pressedAt im s p e .outcome)
 
 unfoldable pub visitSheet : List ℕ → List ℕ → Session → ImagePlace → ℕ → List ℕ
 visitSheet im sheet s p e =
     if e =? second then sheet
-    else followedSheet sheet (componentAt im (p .0) .field) (pressedAt im s p e .work) (pressedAt im s p e .outcome)
+    else followedSheet sheet (componentAt im (p .0) .field) (pressedAt im s p e .work)
+    (pressedAt im s p e .outcome)

@@ -1,7 +1,8 @@
 // Browsing: one method a key.
 ghost use mathlib.Core.Path.{_≡_};
 ghost use Prim.Native.Nat.{_-_, _<_};
-ghost use Rattle.session.specs.Browsing.{firstFor, cursorOn, upStep, downStep, leftStep, descended, rightStep, visitAt, enterStep, browseStep};
+ghost use Rattle.session.specs.Browsing.{firstFor, cursorOn, upStep, downStep, leftStep, descended};
+ghost use Rattle.session.specs.Browsing.{rightStep, visitAt, enterStep, browseStep};
 use crate::answer::Stepped;
 use crate::fits::rows_below;
 use crate::session::Level;
@@ -14,7 +15,7 @@ use cmf::place::first_editable;
 use cmf::place::reach;
 use field::kind::ImagePlace;
 
-// The first shown line once the cursor stands on a line.
+// The first shown line once the cursor is on a line.
 fn first_for(rows: usize, cursor: u8, first: u8) -> u8
     requires { ⌜ cursor < 255 ⌝ }
     ensures { λ r. ⌜ r ≡ firstFor rows cursor first ⌝ }

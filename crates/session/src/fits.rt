@@ -6,7 +6,8 @@ ghost use Rattle.laws.specs.Choice.{_and_, _<?_};
 ghost use Rattle.cmf.specs.Limits.{prologBytes, deepestTable};
 ghost use Rattle.cmf.specs.Places.{componentsOf, foundIf};
 ghost use Rattle.session.specs.Session.{noLevel};
-ghost use Rattle.session.specs.Fits.{shapeFits, cursorLine, cursorHead, levelFits, levelsFit, isIn, workFits, visitFits, digitsTo, entryFits, sessionFits};
+ghost use Rattle.session.specs.Fits.{shapeFits, cursorLine, cursorHead, levelFits, levelsFit, isIn};
+ghost use Rattle.session.specs.Fits.{workFits, visitFits, digitsTo, entryFits, sessionFits};
 use crate::session::Level;
 use crate::session::Mode;
 use crate::session::Session;
@@ -67,7 +68,8 @@ impl Level {
     // Its cursor line, where it shows the table at a place.
     fn shown(self, image: &[u8], lines: u8, table: usize) -> Found
         ensures { λ r. ⌜ r
-            ≡ foundIf (levelFits (now (image .entry)) lines table self) (cursorLine (now (image .entry)) self) ⌝ }
+            ≡ foundIf (levelFits (now (image .entry)) lines table self)
+            (cursorLine (now (image .entry)) self) ⌝ }
     {
         if self.table.0 != table {
             return Found::Nothing;
@@ -221,7 +223,8 @@ fn entry_fits(image: &[u8], line: usize, n: u8, typed: [u8; Image::MAX_PASSWORD]
 }
 
 impl Session {
-    // Whether the session fits an image. Each clause is given the fields that it asks about: a session that is handed on whole is copied.
+    // Whether the session fits an image. Each clause is given the fields that it asks about: a session that
+    // is handed on whole is copied.
     pub fn fits(self, image: &[u8]) -> bool
         ensures { λ r. ⌜ r ≡ sessionFits (now (image .entry)) self ⌝ }
     {

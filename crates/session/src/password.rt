@@ -12,7 +12,7 @@ use cmf::head::Head;
 use cmf::image::Image;
 use laws::byte_at;
 
-// Whether the first count digits typed are those of the password that stands at a place.
+// Whether the first count digits typed are those of the password that is at a place.
 fn is_right(image: &[u8], password: usize, typed: [u8; Image::MAX_PASSWORD], count: usize) -> bool
     requires { ⌜ count ≤ 256 ⌝ }
     ensures { λ r. ⌜ r ≡ rightTo (now (image .entry)) (password + 1) typed count ⌝ }
@@ -64,9 +64,10 @@ impl Session {
         next.flash()
     }
 
-    // A digit behind count others.
+    // A digit after count others.
     fn type_digit(self, image: &[u8], count: u8, d: u8) -> Stepped
-        ensures { λ r. ⌜ r ≡ digitStep (now (image .entry)) self (cursorHead (now (image .entry)) (self .here)) count d ⌝ }
+        ensures { λ r. ⌜ r ≡ digitStep (now (image .entry)) self
+            (cursorHead (now (image .entry)) (self .here)) count d ⌝ }
     {
         let h = self.here.cursor_head(image);
         let old = self.typed;

@@ -19,9 +19,10 @@ pub enum Mode {
     Password(u8),
 }
 
-// above: the open tables above the shown one, from the top, `outer` of them; here: the shown one. work: the working copy of a visit. typed: the digits typed
-// in a password entry. columns, lines: of the display. idle: the idle count, seconds since the last key that were not in a visit. Wide fields come first: there is
-// no gap before them, and copies stay aligned.
+// above: the open tables above the shown one, from the top, `outer` of them; here: the shown one. work: the
+// working copy of a visit. typed: the digits typed in a password entry. columns, lines: of the display. idle:
+// the idle count, seconds since the last key that were not in a visit. Wide fields come first: there is no
+// gap before them, and copies stay aligned.
 pub struct Session {
     pub above: [Level; Session::MAX_ABOVE],
     pub here: Level,

@@ -2,7 +2,8 @@
 ghost use mathlib.Core.Path.{_≡_};
 ghost use Rattle.field.specs.Sheet.{finishedIn};
 ghost use Rattle.session.specs.Answers.{inVisit};
-ghost use Rattle.session.specs.Visits.{pressed, movedOn, followed, followedSheet, visitStep, visitSheet};
+ghost use Rattle.session.specs.Visits.{pressed, movedOn, followed, followedSheet, visitStep};
+ghost use Rattle.session.specs.Visits.{visitSheet};
 ghost use Rattle.keys.specs.declared.press.Outcome.the-variants as outcome;
 use crate::answer::Answer;
 use crate::answer::Stepped;
@@ -78,7 +79,8 @@ impl Session {
         field: Field,
         work: Work,
     ) -> Stepped
-        ensures { λ r. ⌜ r ≡ followed (now (image .entry)) (now (sheet .entry)) self place field work outcome.Done ⌝ }
+        ensures { λ r. ⌜ r ≡ followed (now (image .entry))
+            (now (sheet .entry)) self place field work outcome.Done ⌝ }
         ensures { λ _. ⌜ now (sheet .exit) ≡ finishedIn field work (now (sheet .entry)) ⌝ }
     {
         field.finish(&mut *sheet, work);
@@ -98,8 +100,10 @@ impl Session {
         field: Field,
         pressed: Pressed,
     ) -> Stepped
-        ensures { λ r. ⌜ r ≡ followed (now (image .entry)) (now (sheet .entry)) self place field (pressed .work) (pressed .outcome) ⌝ }
-        ensures { λ _. ⌜ now (sheet .exit) ≡ followedSheet (now (sheet .entry)) field (pressed .work) (pressed .outcome) ⌝ }
+        ensures { λ r. ⌜ r ≡ followed (now (image .entry)) (now (sheet .entry)) self place field
+            (pressed .work) (pressed .outcome) ⌝ }
+        ensures { λ _. ⌜ now (sheet .exit)
+            ≡ followedSheet (now (sheet .entry)) field (pressed .work) (pressed .outcome) ⌝ }
     {
         let work = pressed.work;
         let outcome = pressed.outcome;
@@ -125,7 +129,8 @@ impl Session {
         event: u8,
     ) -> Stepped
         ensures { λ r. ⌜ r ≡ visitStep (now (image .entry)) (now (sheet .entry)) self place event ⌝ }
-        ensures { λ _. ⌜ now (sheet .exit) ≡ visitSheet (now (image .entry)) (now (sheet .entry)) self place event ⌝ }
+        ensures { λ _. ⌜ now (sheet .exit)
+            ≡ visitSheet (now (image .entry)) (now (sheet .entry)) self place event ⌝ }
     {
         if event == Session::SECOND {
             return self.taken();

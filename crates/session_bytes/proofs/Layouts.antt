@@ -1,4 +1,4 @@
--- The layout piece by piece: how long each is, and that pieces written one behind the other are written as one.
+-- The layout piece by piece: how long each is, and that pieces written one after the other are written as one.
 use Prim.Native.Nat.{ℕ, suc, _+_, _-_, _*_, _%_, _≤_, _<_}
 use mathlib.Core.Path.{_≡_, refl, sym, _∙_}
 use mathlib.Core.List.{List, [], _∷_, _++_}
@@ -19,7 +19,7 @@ use Rattle.session.specs.declared.session.Session.{Session}
 use Rattle.session_bytes.specs.Numbers.{numbersBytes}
 use Rattle.session_bytes.specs.Layout.{levelBytes, levelsBytes, modeBytes, shownBytes, doingBytes, sessionBytes, sessionWritten, modeBy}
 
--- ---- one piece behind the other
+-- ---- one piece after the other
 
 pub joined : (d : List ℕ) {t u : List ℕ} (at q : ℕ) (a b : List ℕ) → t ≡ over d at a → u ≡ over t q b → q ≡ at + length a → u ≡ over d at (a ++ b)
 joined d {t} {u} at q a b e f h = f ∙ rw (e, h) (over-next d at a b)

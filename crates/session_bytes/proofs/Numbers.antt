@@ -78,7 +78,7 @@ four-low d at x k =
     rw (low-suc 3 x, low-suc 2 (x / 256), two, low-suc 1 (x / 65536), three, low-suc 0 (x / 16777216), last)
     (four-put d at (x % 256) (x / 256 % 256) (x / 65536 % 256) (x / 16777216))
 
--- the bytes of two numbers, one behind the other, are those of one
+-- the bytes of two numbers, one after the other, are those of one
 low-join : (m n q r : ℕ) → r < 256 ^ m → lowFirst m r ++ lowFirst n q ≡ lowFirst (m + n) (256 ^ m * q + r)
 unfolding lowFirst digitsOf
 low-join zero n q r h =

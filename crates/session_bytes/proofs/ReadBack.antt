@@ -20,7 +20,7 @@ use Rattle.session_bytes.specs.Layout.{levelBytes, levelsBytes, modeByte
 use Rattle.session_bytes.specs.Sized.{Place, Places, Numbers, ModeSized, Sized}
 use Rattle.session_bytes.proofs.Layouts.{length-level, length-levels, length-mode, length-numbers, length-session}
 
--- ---- reading behind a list
+-- ---- reading after a list
 
 abbrev Shifts : {A : Type 0} → (ℕ → List ℕ → A) → Type 0
 Shifts f = (a b : List ℕ) (k at : ℕ) → length a ≡ k → f (k + at) (a ++ b) ≡ f at b
@@ -56,7 +56,7 @@ numbers-shift w (suc n) a b k at h =
     let e : k + at + w ≡ k + (at + w) = omega arith in
     rw (number-shifts w a b k at h, e, numbers-shift w n a b k (at + w) h)
 
--- ---- each piece, where it stands first
+-- ---- each piece, where it is first
 
 number-back : (n x : ℕ) (b : List ℕ) → x < 256 ^ n → numberAt n 0 (lowFirst n x ++ b) ≡ x
 unfolding numberAt lowFirst digitsOf
@@ -95,10 +95,10 @@ mode-back (mode.Password n) b h =
     let wide : n < 256 ^ 8 = omega arith in
     rw (number-shifts 8 (2 ∷ []) (lowFirst 8 n ++ b) 1 0 refl, number-back 8 n b wide, mod-eq-of-lt h) (if-ne 2 1 _ _ (λ z. omega arith) ∙ if-eq 2 2 _ _ refl)
 
--- ---- the whole, piece behind piece
+-- ---- the whole, piece after piece
 
 module _ (s : Session) where
-  -- what stands from the cells, from the mode, from the shown table and from the tables above it on
+  -- what is from the cells, from the mode, from the shown table and from the tables above it on
   fromCells : List ℕ
   fromCells = numbersBytes 4 (s .work .cells) ++ numbersBytes 1 (s .typed)
 

@@ -48,12 +48,14 @@ modeBytes (mode.Password n) = 2 ∷ lowFirst 8 n
 -- the display's shape, the open tables, the idle count
 unfoldable pub shownBytes : Session → List ℕ
 shownBytes s =
-    (s .columns ∷ s .lines ∷ s .outer ∷ []) ++ (levelsBytes (s .above) ++ (levelBytes (s .here) ++ (s .idle ∷ [])))
+    (s .columns ∷ s .lines ∷ s .outer ∷ [])
+    ++ (levelsBytes (s .above) ++ (levelBytes (s .here) ++ (s .idle ∷ [])))
 
 -- the mode, the working copy, the digits typed
 unfoldable pub doingBytes : Session → List ℕ
 doingBytes s =
-    modeBytes (s .mode) ++ ((s .work .at ∷ []) ++ (numbersBytes 4 (s .work .cells) ++ numbersBytes 1 (s .typed)))
+    modeBytes (s .mode) ++ ((s .work .at ∷ [])
+    ++ (numbersBytes 4 (s .work .cells) ++ numbersBytes 1 (s .typed)))
 
 unfoldable pub sessionBytes : Session → List ℕ
 sessionBytes s = shownBytes s ++ doingBytes s
@@ -74,7 +76,8 @@ levelsFrom (suc n) at bs = levelFrom at bs ∷ levelsFrom n (at + 10) bs
 -- a number that is no mode's is browsing; of a count of digits the lowest byte counts
 unfoldable pub modeBy : ℕ → ℕ → Mode
 modeBy tag x =
-    if tag =? 1 then mode.Visit (record { 0 = x }) else if tag =? 2 then mode.Password (x % 256) else mode.Browsing
+    if tag =? 1 then mode.Visit (record { 0 = x }) else if tag =? 2 then mode.Password (x % 256)
+    else mode.Browsing
 
 -- bytes of a session's length
 unfoldable pub sessionIn : List ℕ → Session

@@ -1,4 +1,5 @@
--- Numbers in bytes, low byte first: `lowFirst` of laws writes one, and here it is read back, one number or several.
+-- Numbers in bytes, low byte first: `lowFirst` of laws writes one, and here it is read back, one number or
+-- several.
 use Prim.Native.Nat.{ℕ, zero, suc, _+_, _*_}
 use mathlib.Core.List.{List, [], _∷_, _++_}
 use Rattle.laws.specs.Bytes.{byteAt}
@@ -9,7 +10,7 @@ unfoldable pub numberAt : ℕ → ℕ → List ℕ → ℕ
 numberAt zero at bs = 0
 numberAt (suc n) at bs = byteAt bs at + 256 * numberAt n (at + 1) bs
 
--- numbers of w bytes each, one behind the other
+-- numbers of w bytes each, one after the other
 unfoldable pub numbersBytes : ℕ → List ℕ → List ℕ
 numbersBytes w [] = []
 numbersBytes w (x ∷ xs) = lowFirst w x ++ numbersBytes w xs

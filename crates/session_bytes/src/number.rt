@@ -1,4 +1,5 @@
-// Numbers in bytes, low byte first. All their bytes are there, so that no test stands between them, and the compiler makes one load or store of four or eight.
+// Numbers in bytes, low byte first. All their bytes are there, so that there is no test between them, and the
+// compiler makes one load or store of four or eight.
 ghost use mathlib.Core.Path.{_≡_};
 ghost use mathlib.Core.List.{[], _∷_};
 ghost use Prim.Native.Nat.{_+_, _≤_, _<_};

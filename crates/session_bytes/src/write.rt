@@ -1,11 +1,14 @@
-// A session written to bytes, piece by piece. All its bytes are there, so that no piece asks how many the caller has.
+// A session written to bytes, piece by piece. All its bytes are there, so that no piece asks how many the
+// caller has.
 ghost use mathlib.Core.Path.{_≡_};
 ghost use mathlib.Core.List.{[], _∷_};
 ghost use Prim.Native.Nat.{_+_, _≤_};
 ghost use lib.ListN.{length};
 ghost use Rattle.laws.specs.Overwrite.{over};
 ghost use Rattle.session_bytes.specs.Numbers.{numbersBytes};
-ghost use Rattle.session_bytes.specs.Layout.{sessionSize, levelBytes, levelsBytes, modeBytes, shownBytes, doingBytes, sessionBytes, sessionFrom, sessionWritten};
+ghost use Rattle.session_bytes.specs.Layout.{sessionSize, levelBytes, levelsBytes, modeBytes};
+ghost use Rattle.session_bytes.specs.Layout.{shownBytes, doingBytes, sessionBytes, sessionFrom};
+ghost use Rattle.session_bytes.specs.Layout.{sessionWritten};
 use crate::layout::ABOVE;
 use crate::layout::BROWSING;
 use crate::layout::CELL;

@@ -68,7 +68,8 @@ fn print_listed(image: &[u8], sheet: &[u8], index: &[usize], count: usize) {
     }
 }
 
-// Each field in the order of the walk: where it stands in the image, where its bytes lie in the sheet, and the bytes.
+// Each field in the order of the walk: where it is in the image, where its bytes lie in the sheet, and the
+// bytes.
 pub fn print_fields(image: &[u8], sheet: &[u8]) {
     let c = check(image, sheet.len());
     let fields = c.progress.fields;
@@ -84,7 +85,7 @@ fn print_last(index: &[usize], fields: usize) {
     }
 }
 
-// Where the last thing that stands ended; 0 where the top table's title is at fault.
+// Where the last structure without fault ended; 0 where the top table's title is at fault.
 fn print_end(at: usize) {
     if at == 0 {
         say(b"the title of the top table is at fault\n");
@@ -95,7 +96,8 @@ fn print_end(at: usize) {
     say(b": the fault comes next\n");
 }
 
-// What the check knows of a fault that the walk found: how many line heads and fields stand, and where the last thing before the fault ended.
+// What the check knows of a fault that the walk found: how many line heads and fields are without fault, and
+// where the last thing before the fault ended.
 pub fn print_reach(image: &[u8], sheet: usize, refusal: u8) {
     if refusal < WALK {
         return;

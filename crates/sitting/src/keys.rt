@@ -1,4 +1,5 @@
-// The keys of a sitting: letters that stand for the handset's keys, read one by one and played. A line's end shows the picture.
+// The keys of a sitting: letters that stand for the handset's keys, read one by one and played. A line's end
+// shows the picture.
 use crate::show::show;
 use crate::words::print_answer;
 use crate::words::print_key;

@@ -1,5 +1,6 @@
-// A whole sitting in one command: `sitting IMAGE [KEYS]` opens an exam paper on a display of 20 x 4 and a sheet of zeros, plays the
-// keys of a file or of standard input, and prints pictures, answers and at the end the bytes of each field.
+// A whole sitting in one command: `sitting IMAGE [KEYS]` opens an exam paper on a display of 20 x 4 and a
+// sheet of zeros, plays the keys of a file or of standard input, and prints pictures, answers and at the end
+// the bytes of each field.
 mod fields;
 mod file;
 mod keys;

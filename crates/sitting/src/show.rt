@@ -1,5 +1,5 @@
-// The display in a frame. In a visit the cursor line has a line below it, outside the frame, with '^' under the cell that the
-// edit cursor stands on.
+// The display in a frame. In a visit the cursor line has a line below it, outside the frame, with '^' under
+// the cell that the edit cursor is on.
 use crate::words::say;
 use crate::words::say_plain;
 use crate::words::say_refusal;
@@ -31,7 +31,7 @@ fn print_row(picture: &[u8], row: usize) {
     }
 }
 
-// A '^' under a column; the frame's bar stands before column 0.
+// A '^' under a column; the frame's bar is before column 0.
 fn print_caret(column: usize) {
     let mut i = 0;
     while i < column {
@@ -47,7 +47,7 @@ fn print_caret_if(here: bool, column: usize) {
     }
 }
 
-// The edit cursor, where it stands on a row.
+// The edit cursor, where it is on a row.
 fn print_cursor(cursor: EditCursor, under: usize) {
     match cursor {
         EditCursor::Nowhere => (),

@@ -45,7 +45,7 @@ unfolding decimal
 length-decimal zero v = refl
 length-decimal (suc n) v = rw (length-append (decimal n (v / 10)) ((digit0 + v % 10) ∷ []), length-decimal n (v / 10)) (omega arith)
 
--- the digits of a number from the last on: those that are left stand before it
+-- the digits of a number from the last on: those that are left are before it
 pub decimal-turn : {row next : List ℕ} {r : ℕ} (at k rest : ℕ) → at < k → Put row (k - 1) ((digit0 + rest % 10) ∷ []) next r
     → over next at (decimal (k - 1 - at) (rest / 10)) ≡ over row at (decimal (k - at) rest)
 unfolding decimal

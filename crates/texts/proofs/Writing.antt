@@ -13,7 +13,7 @@ use Rattle.laws.specs.Overwrite.{fit, over}
 use Rattle.laws.proofs.Overwriting.{length-over, length-fit, over-cons, over-nil, over-out, over-over, over-all}
 use Rattle.texts.specs.Row.{Put}
 
--- ---- one behind the other
+-- ---- one after the other
 
 -- two texts
 pub behind : {d e f s t : List ℕ} {at m r : ℕ} → Put d at s e m → Put e m t f r → Put d at (s ++ t) f r
@@ -28,7 +28,7 @@ behind {d = d} {e = e} {s = s} {t = t} {at = at} a b =
 pub same : {d e s t : List ℕ} {at r : ℕ} → s ≡ t → Put d at s e r → Put d at t e r
 same q a = rw q at a
 
--- what is written in front and what is written behind it may change places
+-- what is written in front and what is written after it may change places
 pub over-ahead : (d : List ℕ) (at : ℕ) (s t : List ℕ) → over (over d (at + length s) t) at s ≡ over (over d at s) (at + length s) t
 unfolding over
 over-ahead [] at s t = refl

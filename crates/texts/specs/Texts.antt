@@ -54,10 +54,12 @@ unfoldable pub digitCells : List ℕ → ℕ → ℕ → List ℕ
 digitCells cs at zero = []
 digitCells cs at (suc n) = digitChar (getD cs at 0) ∷ digitCells cs (at + 1) n
 
--- 01, Fields: integers and switches show every cell, so leading zeros too; the sign is in front, and a switch's highest bit is its first cell
+-- 01, Fields: integers and switches show every cell, so leading zeros too; the sign is in front, and a
+-- switch's highest bit is its first cell
 unfoldable pub numeralText : Numeral → List ℕ → List ℕ
 numeralText n cs =
-    if n .signs =? 0 then digitCells cs 0 (n .digits) else signChar (getD cs 0 0) ∷ digitCells cs 1 (n .digits)
+    if n .signs =? 0 then digitCells cs 0 (n .digits)
+    else signChar (getD cs 0 0) ∷ digitCells cs 1 (n .digits)
 
 -- the n lowest decimal digits of a number
 unfoldable pub decimal : ℕ → ℕ → List ℕ
@@ -68,11 +70,12 @@ decimal (suc n) x = decimal n (x / 10) ++ ((digit0 + x % 10) ∷ [])
 abbrev pub plain : ℕ → List ℕ
 plain x = decimal (digitCount x) x
 
--- 01, Fields: a counter below 0 has a '-' and no other has a sign; the cell holds the number with 32,768 added
+-- 01, Fields: a counter below 0 has a '-' and no other has a sign; the cell holds the number with 32,768
+-- added
 unfoldable pub countText : ℕ → List ℕ
 countText x = if x <? 32768 then dash ∷ plain (32768 - x) else plain (x - 32768)
 
--- blanks before a text, or behind it, up to a width
+-- blanks before a text, or after it, up to a width
 abbrev pub alignedRight : ℕ → List ℕ → List ℕ
 alignedRight w s = replicate (w - length s) blank ++ s
 
@@ -84,7 +87,8 @@ paddedRight w s = s ++ replicate (w - length s) blank
 -- 01, Fields: hours, minutes and, in the long form, seconds, two digits each
 unfoldable pub timeText : Bool → List ℕ → List ℕ
 timeText long cs =
-    decimal 2 (getD cs 0 0) ++ (colon ∷ (decimal 2 (getD cs 1 0) ++ (if long then colon ∷ decimal 2 (getD cs 2 0) else [])))
+    decimal 2 (getD cs 0 0) ++ (colon ∷
+    (decimal 2 (getD cs 1 0) ++ (if long then colon ∷ decimal 2 (getD cs 2 0) else [])))
 
 -- 01, Fields: year, month, day; the long form has four digits of the year, the short one two
 unfoldable pub yearCells : Bool → ℕ
@@ -92,7 +96,8 @@ yearCells long = if long then 4 else 2
 
 unfoldable pub dateText : Bool → List ℕ → List ℕ
 dateText long cs =
-    decimal (yearCells long) (getD cs 0 0) ++ (dash ∷ (decimal 2 (getD cs 1 0) ++ (dash ∷ decimal 2 (getD cs 2 0))))
+    decimal (yearCells long) (getD cs 0 0)
+    ++ (dash ∷ (decimal 2 (getD cs 1 0) ++ (dash ∷ decimal 2 (getD cs 2 0))))
 
 -- ---- every kind
 
@@ -100,7 +105,8 @@ dateText long cs =
 abbrev pub triggerText : List ℕ
 triggerText = 0x5b ∷ star ∷ 0x5d ∷ []
 
--- what cells show at the component at a place: a counter stands at the right of its width, an option's item at the left
+-- what cells show at the component at a place: a counter is at the right of its width, an option's item at
+-- the left
 unfoldable pub cellsText : List ℕ → ℕ → Kind → List ℕ → List ℕ
 cellsText im p (Integer f) cs = numeralText (numeralOf f) cs
 cellsText im p (Counter s) cs = alignedRight (s .width) (countText (getD cs 0 0))
@@ -127,5 +133,6 @@ sheetNumber sheet f = numberOf (valueAt (f .sheet .0) (sizeOf f) sheet)
 -- 01, Fields: the sheet's value, or a row of '#' as wide as the field where that is out of range
 unfoldable pub fieldText : List ℕ → List ℕ → ℕ → Field → List ℕ
 fieldText im sheet p f =
-    if inRange (f .kind) (sheetNumber sheet f) then cellsText im p (f .kind) (workOf (cellsOf (f .kind) (sheetNumber sheet f)) .cells)
+    if inRange (f .kind) (sheetNumber sheet f)
+    then cellsText im p (f .kind) (workOf (cellsOf (f .kind) (sheetNumber sheet f)) .cells)
     else replicate (widthOf (f .kind)) hash

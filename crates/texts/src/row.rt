@@ -1,4 +1,5 @@
-// The cells of a row while they are written: texts are put one behind the other, and what does not fit is dropped.
+// The cells of a row while they are written: texts are put one after the other, and what does not fit is
+// dropped.
 ghost use mathlib.Core.Path.{_≡_};
 ghost use mathlib.Core.List.{[], _∷_};
 ghost use Prim.Native.Nat.{min, _-_};
@@ -15,7 +16,7 @@ pub fn smaller(a: usize, b: usize) -> usize
     if a < b { a } else { b }
 }
 
-// One cell; like the others it answers where what comes behind it is to be put.
+// One cell; like the others it answers where what comes after it is to be put.
 pub fn put(row: &mut [u8], at: usize, byte: u8) -> usize
     ensures { λ r. ⌜ Put (now (row .entry)) at (byte ∷ []) (now (row .exit)) r ⌝ }
 {
@@ -58,7 +59,8 @@ pub fn repeat(row: &mut [u8], at: usize, byte: u8, count: usize) -> usize
 
 // Blanks up to the end of the row.
 pub fn pad(row: &mut [u8], at: usize)
-    ensures { λ _. ⌜ now (row .exit) ≡ over (now (row .entry)) at (replicate (length (now (row .entry)) - at) blank) ⌝ }
+    ensures { λ _. ⌜ now (row .exit) ≡ over (now (row .entry)) at
+        (replicate (length (now (row .entry)) - at) blank) ⌝ }
 {
     let mut i = at;
     while i < row.len() {

@@ -5,7 +5,9 @@ ghost use lib.ListN.{getD, replicate};
 ghost use Rattle.laws.specs.Choice.{if_then_else_, _≤?_};
 ghost use Rattle.field.specs.Cells.{cellsOf, workOf};
 ghost use Rattle.texts.specs.Row.{Put};
-ghost use Rattle.texts.specs.Texts.{hash, digitChar, signChar, digitCells, numeralText, decimal, countText, alignedRight, paddedRight, timeText, yearCells, dateText, triggerText, cellsText, widthOf, fieldText};
+ghost use Rattle.texts.specs.Texts.{hash, digitChar, signChar, digitCells, numeralText, decimal};
+ghost use Rattle.texts.specs.Texts.{countText, alignedRight, paddedRight, timeText, yearCells};
+ghost use Rattle.texts.specs.Texts.{dateText, triggerText, cellsText, widthOf, fieldText};
 ghost use Rattle.cmf.specs.Readers.{textBytes, itemPlace};
 use crate::row::BLANK;
 use crate::row::put;
@@ -87,7 +89,8 @@ fn cell_at(cells: &[u32], i: usize) -> u64
 
 // The digits in count cells from one on.
 fn put_digits(row: &mut [u8], at: usize, cells: &[u32], from: u8, count: u8) -> usize
-    ensures { λ r. ⌜ Put (now (row .entry)) at (digitCells (now (cells .entry)) from count) (now (row .exit)) r ⌝ }
+    ensures { λ r. ⌜ Put (now (row .entry)) at (digitCells (now (cells .entry)) from count)
+        (now (row .exit)) r ⌝ }
 {
     let mut n = at;
     let mut i = from as usize;
@@ -175,7 +178,9 @@ fn put_date(row: &mut [u8], at: usize, long: bool, cells: &[u32]) -> usize
 
 // An item of the option at a place, padded right.
 fn put_item(row: &mut [u8], at: usize, image: &[u8], place: usize, item: u64, longest: u8) -> usize
-    ensures { λ r. ⌜ Put (now (row .entry)) at (paddedRight longest (textBytes (now (image .entry)) (itemPlace (now (image .entry)) place item))) (now (row .exit)) r ⌝ }
+    ensures { λ r. ⌜ Put (now (row .entry)) at
+        (paddedRight longest (textBytes (now (image .entry)) (itemPlace (now (image .entry)) place item)))
+        (now (row .exit)) r ⌝ }
 {
     let text = item_bytes(image, place, item as usize);
     let n = text.len();
@@ -200,7 +205,8 @@ pub fn put_cells(
     kind: Kind,
     cells: &[u32],
 ) -> usize
-    ensures { λ r. ⌜ Put (now (row .entry)) at (cellsText (now (image .entry)) place kind (now (cells .entry))) (now (row .exit)) r ⌝ }
+    ensures { λ r. ⌜ Put (now (row .entry)) at
+        (cellsText (now (image .entry)) place kind (now (cells .entry))) (now (row .exit)) r ⌝ }
 {
     match kind {
         Kind::Integer(f) => put_numeral(&mut *row, at, f.numeral(), cells),
@@ -222,7 +228,8 @@ pub fn put_cells(
 
 // What the cells of a number show.
 fn put_number(row: &mut [u8], at: usize, image: &[u8], place: usize, kind: Kind, x: u32) -> usize
-    ensures { λ r. ⌜ Put (now (row .entry)) at (cellsText (now (image .entry)) place kind (workOf (cellsOf kind x) .cells)) (now (row .exit)) r ⌝ }
+    ensures { λ r. ⌜ Put (now (row .entry)) at
+        (cellsText (now (image .entry)) place kind (workOf (cellsOf kind x) .cells)) (now (row .exit)) r ⌝ }
 {
     let shown = Work::showing(kind, x);
     let cells = shown.cells;
@@ -238,7 +245,8 @@ fn put_value(
     place: usize,
     field: Field,
 ) -> usize
-    ensures { λ r. ⌜ Put (now (row .entry)) at (fieldText (now (image .entry)) (now (sheet .entry)) place field) (now (row .exit)) r ⌝ }
+    ensures { λ r. ⌜ Put (now (row .entry)) at
+        (fieldText (now (image .entry)) (now (sheet .entry)) place field) (now (row .exit)) r ⌝ }
 {
     let kind = field.kind;
     let x = load(sheet, field.sheet, profile_of(kind).bytes).number();
@@ -259,7 +267,10 @@ fn put_option(
     items: u8,
     longest: u8,
 ) -> usize
-    ensures { λ r. ⌜ Put (now (row .entry)) at (if x ≤? (items - 1) then paddedRight longest (textBytes (now (image .entry)) (itemPlace (now (image .entry)) place x)) else replicate longest hash) (now (row .exit)) r ⌝ }
+    ensures { λ r. ⌜ Put (now (row .entry)) at
+        (if x ≤? (items - 1) then paddedRight longest
+        (textBytes (now (image .entry)) (itemPlace (now (image .entry)) place x)) else replicate longest hash)
+        (now (row .exit)) r ⌝ }
 {
     if x as usize <= less(items as usize, 1) {
         return put_item(&mut *row, at, image, place, x as u64, longest);
@@ -276,7 +287,8 @@ pub fn put_field(
     place: usize,
     field: Field,
 ) -> usize
-    ensures { λ r. ⌜ Put (now (row .entry)) at (fieldText (now (image .entry)) (now (sheet .entry)) place field) (now (row .exit)) r ⌝ }
+    ensures { λ r. ⌜ Put (now (row .entry)) at
+        (fieldText (now (image .entry)) (now (sheet .entry)) place field) (now (row .exit)) r ⌝ }
 {
     let kind = field.kind;
     match kind {

@@ -5,7 +5,9 @@ ghost use Rattle.laws.specs.Choice.{_and_, _=?_};
 ghost use Rattle.laws.specs.Bytes.{byteAt};
 ghost use lib.ListN.{length};
 ghost use Rattle.cmf.specs.Places.{componentsFrom};
-ghost use Rattle.acceptance.specs.Check.{padded, takeTitle, agrees, linePlaced, countLine, takeLine, takeField, takeComponent, onComponents, onLine, onTable, prologCode, checked};
+ghost use Rattle.acceptance.specs.Check.{padded, takeTitle, agrees, linePlaced, countLine, takeLine};
+ghost use Rattle.acceptance.specs.Check.{takeField, takeComponent, onComponents, onLine, onTable};
+ghost use Rattle.acceptance.specs.Check.{prologCode, checked};
 ghost use Rattle.acceptance.specs.Index.{capacity, seen, indexOf};
 ghost use Rattle.acceptance.specs.Clean.{StaysClean};
 use acceptance::index::Entry;
@@ -24,13 +26,14 @@ use laws::byte_at;
 // The numbers of an index: three for each field that there may be.
 const INDEX: usize = 3 * Image::MAX_FIELDS;
 
-// What a check found: how far the walk came and its refusal number, and the fields that it reached, three numbers to a field.
+// What a check found: how far the walk came and its refusal number, and the fields that it reached, three
+// numbers to a field.
 pub struct Checked {
     pub progress: Progress,
     pub index: [usize; INDEX],
 }
 
-// Whether what stands at a place follows what ended before it at once, or behind one zero byte.
+// Whether what is at a place follows what ended before it at once, or after one zero byte.
 pub fn is_padded(image: &[u8], at: usize, place: usize) -> bool
     ensures { λ r. ⌜ r ≡ padded (now (image .entry)) at place ⌝ }
 {
@@ -115,7 +118,8 @@ fn take_line(image: &[u8], n: usize, before: usize, p: usize, h: Head, w: Progre
 
 // A field: counted, its settings, its bytes in the sheet.
 fn take_field(sheet: usize, c: Component, w: Progress, index: &mut [usize]) -> Progress
-    ensures { λ r. ⌜ seen r (now (index .exit)) ≡ takeField sheet (capacity (now (index .entry))) c (seen w (now (index .entry))) ⌝ }
+    ensures { λ r. ⌜ seen r (now (index .exit))
+        ≡ takeField sheet (capacity (now (index .entry))) c (seen w (now (index .entry))) ⌝ }
     ensures { λ r. ⌜ StaysClean (w .fields) (now (index .entry)) (r .fields) (now (index .exit)) ⌝ }
 {
     let k = w.fields;
@@ -153,7 +157,9 @@ fn take_component(
     w: Progress,
     index: &mut [usize],
 ) -> Progress
-    ensures { λ r. ⌜ seen r (now (index .exit)) ≡ takeComponent (now (image .entry)) sheet (capacity (now (index .entry))) p c (seen w (now (index .entry))) ⌝ }
+    ensures { λ r. ⌜ seen r (now (index .exit))
+        ≡ takeComponent (now (image .entry)) sheet (capacity (now (index .entry))) p c
+        (seen w (now (index .entry))) ⌝ }
     ensures { λ r. ⌜ StaysClean (w .fields) (now (index .entry)) (r .fields) (now (index .exit)) ⌝ }
 {
     if c.refusal == 6 {
@@ -180,7 +186,10 @@ fn check_components(
     w: Progress,
     index: &mut [usize],
 ) -> Progress
-    ensures { λ r. ⌜ seen r (now (index .exit)) ≡ onComponents (now (image .entry)) sheet (capacity (now (index .entry))) (componentsFrom (now (image .entry)) (length (now (image .entry)) + 1) p) (seen w (now (index .entry))) ⌝ }
+    ensures { λ r. ⌜ seen r (now (index .exit))
+        ≡ onComponents (now (image .entry)) sheet (capacity (now (index .entry)))
+        (componentsFrom (now (image .entry)) (length (now (image .entry)) + 1) p)
+        (seen w (now (index .entry))) ⌝ }
     ensures { λ r. ⌜ StaysClean (w .fields) (now (index .entry)) (r .fields) (now (index .exit)) ⌝ }
 {
     let mut v = w;
@@ -212,7 +221,10 @@ fn check_line(
     w: Progress,
     index: &mut [usize],
 ) -> Progress
-    ensures { λ r. ⌜ seen r (now (index .exit)) ≡ onLine (now (image .entry)) sheet (capacity (now (index .entry))) (onTable (now (image .entry)) sheet (capacity (now (index .entry))) below) n before p (seen w (now (index .entry))) ⌝ }
+    ensures { λ r. ⌜ seen r (now (index .exit))
+        ≡ onLine (now (image .entry)) sheet (capacity (now (index .entry)))
+        (onTable (now (image .entry)) sheet (capacity (now (index .entry))) below) n before p
+        (seen w (now (index .entry))) ⌝ }
     ensures { λ r. ⌜ StaysClean (w .fields) (now (index .entry)) (r .fields) (now (index .exit)) ⌝ }
 {
     let h = read_head(image, p);
@@ -240,7 +252,9 @@ fn check_table(
     w: Progress,
     index: &mut [usize],
 ) -> Progress
-    ensures { λ r. ⌜ seen r (now (index .exit)) ≡ onTable (now (image .entry)) sheet (capacity (now (index .entry))) left at (seen w (now (index .entry))) ⌝ }
+    ensures { λ r. ⌜ seen r (now (index .exit))
+        ≡ onTable (now (image .entry)) sheet (capacity (now (index .entry))) left at
+        (seen w (now (index .entry))) ⌝ }
     ensures { λ r. ⌜ StaysClean (w .fields) (now (index .entry)) (r .fields) (now (index .exit)) ⌝ }
 {
     let t = read_title(image, at);
@@ -297,7 +311,8 @@ pub fn prolog_code(image: &[u8]) -> u8
 }
 
 fn has_name(image: &[u8]) -> bool
-    ensures { λ r. ⌜ r ≡ (byteAt (now (image .entry)) 0 =? 0x43) and ((byteAt (now (image .entry)) 1 =? 0x4d) and (byteAt (now (image .entry)) 2 =? 0x46)) ⌝ }
+    ensures { λ r. ⌜ r ≡ (byteAt (now (image .entry)) 0 =? 0x43)
+        and ((byteAt (now (image .entry)) 1 =? 0x4d) and (byteAt (now (image .entry)) 2 =? 0x46)) ⌝ }
 {
     if byte_at(image, 0) == 0x43 {
         if byte_at(image, 1) == 0x4d {
@@ -310,7 +325,8 @@ fn has_name(image: &[u8]) -> bool
 
 fn has_pair(image: &[u8], at: usize, low: u8, high: u8) -> bool
     requires { ⌜ at < 10 ⌝ }
-    ensures { λ r. ⌜ r ≡ (byteAt (now (image .entry)) at =? low) and (byteAt (now (image .entry)) (at + 1) =? high) ⌝ }
+    ensures { λ r. ⌜ r ≡ (byteAt (now (image .entry)) at =? low)
+        and (byteAt (now (image .entry)) (at + 1) =? high) ⌝ }
 {
     if byte_at(image, at) == low {
         return byte_at(image, at + 1) == high;
@@ -318,7 +334,8 @@ fn has_pair(image: &[u8], at: usize, low: u8, high: u8) -> bool
     false
 }
 
-// The refusal number of an image for a sheet of so many bytes, 0 for none, and the fields that were reached, with zeros after them.
+// The refusal number of an image for a sheet of so many bytes, 0 for none, and the fields that were reached,
+// with zeros after them.
 pub fn check(image: &[u8], sheet: usize) -> Checked
     ensures { λ r. ⌜ r .progress ≡ checked (now (image .entry)) sheet .progress ⌝ }
     ensures { λ r. ⌜ r .index ≡ indexOf (checked (now (image .entry)) sheet .fields) ⌝ }

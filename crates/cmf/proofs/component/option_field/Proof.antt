@@ -1,4 +1,4 @@
--- An option by its rows of the tables: one byte, behind its three settings.
+-- An option by its rows of the tables: one byte, after its three settings.
 use Rattle.laws.specs.Choice.{if_then_else_}
 use Rattle.cmf.specs.Readers.{kindAt, sheetPlaceAt, defaultPlace}
 use Rattle.field.specs.Profiles.{profileOf}

@@ -1,4 +1,4 @@
--- Row 0, and behind it the rows below it, are all of the picture.
+-- Row 0, and after it the rows below it, are all of the picture.
 use borrow.Author.Needs.{needs}
 use native.Mathlib.Omega.{arith}
 use Rattle.picture.proofs.Filling.{shape-of, top-inside, picture-whole}

@@ -1,4 +1,4 @@
--- One cell behind the other.
+-- One cell after the other.
 use borrow.Author.Needs.{needs}
 use Rattle.picture.specs.Rows.{lineNumber}
 use Rattle.texts.proofs.Writing.{behind}

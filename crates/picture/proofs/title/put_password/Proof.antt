@@ -1,4 +1,4 @@
--- The parts of the row, one behind the other.
+-- The parts of the row, one after the other.
 use borrow.Author.Needs.{needs}
 use mathlib.Core.Path.{refl}
 use Rattle.session.proofs.Stepping.{head-there}

@@ -1,4 +1,4 @@
--- A line is head, components and submenu; the lines that are left, done to a state that stands, are the whole. The depth left falls.
+-- A line is head, components and submenu; the lines that are left, done to a state that has come as far, are the whole. The depth left falls.
 use mathlib.Core.Path.{_≡_, refl, _∙_}
 use lib.ListN.{length}
 use borrow.Author.Needs.{needs}

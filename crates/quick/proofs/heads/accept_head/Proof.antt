@@ -1,4 +1,4 @@
--- A head of the grammar where the walk stands.
+-- A head of the grammar where the walk is.
 use borrow.Author.Tests.{not-false}
 use native.Mathlib.Omega.{arith}
 use borrow.Author.Needs.{needs}

@@ -1,4 +1,4 @@
--- Spot by spot; the stage goes onward.
+-- Position by position; the tally goes onward.
 use Prim.Native.Nat.{_-_}
 use mathlib.Core.Path.{_≡_, refl, _∙_}
 use mathlib.Core.Bool.{true, false}

@@ -1,4 +1,4 @@
--- Two cells, one behind the other.
+-- Two cells, one after the other.
 use Rattle.session_bytes.proofs.Numbers.{eight-read}
 use borrow.Author.Needs.{needs}
 use Rattle.session_bytes.proofs.number.place_at.Statement.{statement}

@@ -1,4 +1,4 @@
--- Two cells, one behind the other.
+-- Two cells, one after the other.
 use Prim.Native.Nat.{_+_, _/_, _%_}
 use Rattle.laws.specs.Digits.{lowFirst}
 use Rattle.laws.proofs.Numerals.{length-low}

@@ -1,4 +1,4 @@
--- The invariant: the numbers left to read, put behind those read, give the whole.
+-- The invariant: the numbers left to read, put after those read, give the whole.
 use Prim.Native.Nat.{_+_, _-_}
 use mathlib.Core.Path.{_≡_, refl, sym, _∙_}
 use native.Mathlib.Omega.{arith}

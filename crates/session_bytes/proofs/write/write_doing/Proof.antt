@@ -1,4 +1,4 @@
--- The pieces, one behind the other.
+-- The pieces, one after the other.
 use mathlib.Core.List.{[], _∷_, _++_}
 use native.Mathlib.Omega.{arith}
 use mathlib.Core.Path.{refl}

@@ -1,4 +1,4 @@
--- The three pieces, one behind the other.
+-- The three pieces, one after the other.
 use mathlib.Core.List.{[], _∷_}
 use native.Mathlib.Omega.{arith}
 use Prim.Native.Nat.{_+_}

@@ -1,4 +1,4 @@
--- Each mode has its number, and its value stands behind it.
+-- Each mode has its number, and its value is after it.
 use mathlib.Core.List.{[], _∷_}
 use mathlib.Core.Path.{refl}
 use Rattle.laws.specs.Digits.{lowFirst}

@@ -1,4 +1,4 @@
--- The three bytes, one behind the other.
+-- The three bytes, one after the other.
 use mathlib.Core.List.{[], _∷_}
 use mathlib.Core.Path.{refl}
 use Rattle.session_bytes.proofs.Layouts.{joined}

@@ -1,4 +1,4 @@
--- One cell behind the other.
+-- One cell after the other.
 use borrow.Author.Needs.{needs}
 use Rattle.texts.proofs.Writing.{behind}
 use Rattle.texts.proofs.text.put_trigger.Statement.{statement}
