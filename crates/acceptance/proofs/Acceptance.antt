@@ -19,32 +19,32 @@ use Rattle.acceptance.proofs.Indexed.{listed-index}
 use Rattle.acceptance.proofs.Places as places
 use Rattle.acceptance.proofs.Turns as turns
 
-module _ (im : List ℕ) (sheet : ℕ) where
-  pub accepted-exactly-when-well-formed : (refusalOf im sheet ≡ 0 → WellFormed im sheet) × (WellFormed im sheet → refusalOf im sheet ≡ 0)
-  accepted-exactly-when-well-formed = accepted.accepted-exactly-when-well-formed im sheet (agree im)
+module _ (im : List ℕ) (extent : ℕ) where
+  pub accepted-exactly-when-well-formed : (refusalOf im extent ≡ 0 → WellFormed im extent) × (WellFormed im extent → refusalOf im extent ≡ 0)
+  accepted-exactly-when-well-formed = accepted.accepted-exactly-when-well-formed im extent (agree im)
 
   -- the walk's lines, fields and index are the derivation's
-  pub counted : (w : WellFormed im sheet) → accepted.Counted im sheet w
-  counted w = accepted.counted im sheet (agree im) w
+  pub counted : (w : WellFormed im extent) → accepted.Counted im extent w
+  counted w = accepted.counted im extent (agree im) w
 
   -- the fields of a well-formed image are those that a walk over its tables, lines and components reaches
-  pub fields-are : (w : WellFormed im sheet) → w .fields ≡ fieldsOf im
-  fields-are w = places.fields-are im (agree im) sheet w
+  pub fields-are : (w : WellFormed im extent) → w .fields ≡ fieldsOf im
+  fields-are w = places.fields-are im (agree im) extent w
 
   -- and so are the check's, where it refuses nothing
-  pub checked-fields : refusalOf im sheet ≡ 0 → checked im sheet .fields ≡ map entryOf (fieldsOf im)
+  pub checked-fields : refusalOf im extent ≡ 0 → checked im extent .fields ≡ map entryOf (fieldsOf im)
   checked-fields z = let w = accepted-exactly-when-well-formed .0 z in counted w .index ∙ ap (map entryOf) (fields-are w)
 
   -- what the check hands out is read back, where it refuses nothing
-  pub index-read : (v : Progress) (xs : List ℕ) → v ≡ checked im sheet .progress → xs ≡ indexOf (checked im sheet .fields) → v .refusal ≡ 0 → seen v xs ≡ checked im sheet
+  pub index-read : (v : Progress) (xs : List ℕ) → v ≡ checked im extent .progress → xs ≡ indexOf (checked im extent .fields) → v .refusal ≡ 0 → seen v xs ≡ checked im extent
   unfolding refusalOf
   index-read v xs e f z =
       let w = accepted-exactly-when-well-formed .0 (ap (λ (u : Progress). u .refusal) (sym e) ∙ z) in
       let c = counted w in
-      let n : checked im sheet .progress .fields ≡ length (checked im sheet .fields) = c .fields ∙ sym (length-map (w .fields) entryOf) ∙ ap length (sym (c .index)) in
-      let few : length (checked im sheet .fields) ≤ mostFields = omega (arith, n, c .fields, w .few-fields) in
-      let q : listed xs (v .fields) ≡ checked im sheet .fields = rw (e, f, n) (listed-index (checked im sheet .fields) few) in
-      ap (λ (es : List Entry). state v es) q ∙ ap (λ (u : Progress). state u (checked im sheet .fields)) e
+      let n : checked im extent .progress .fields ≡ length (checked im extent .fields) = c .fields ∙ sym (length-map (w .fields) entryOf) ∙ ap length (sym (c .index)) in
+      let few : length (checked im extent .fields) ≤ mostFields = omega (arith, n, c .fields, w .few-fields) in
+      let q : listed xs (v .fields) ≡ checked im extent .fields = rw (e, f, n) (listed-index (checked im extent .fields) few) in
+      ap (λ (es : List Entry). state v es) q ∙ ap (λ (u : Progress). state u (checked im extent .fields)) e
 
 -- an image is read in one way only: its fields do not depend on the sheet
 pub same-fields : (im : List ℕ) (a b : ℕ) (v : WellFormed im a) (w : WellFormed im b) → v .fields ≡ w .fields

@@ -54,24 +54,24 @@ module _ (im : List ℕ) where
       P : ℕ → Type 0
       P k = k ≡ 0 → Prolog im
 
-module _ (im : List ℕ) (sheet : ℕ) (A : Agree im) where
+module _ (im : List ℕ) (extent : ℕ) (A : Agree im) where
   -- a well-formed image is walked to its end
-  walked-is : (w : WellFormed im sheet) → Came (checked im sheet) (w .lines) (map entryOf (w .fields))
+  walked-is : (w : WellFormed im extent) → Came (checked im extent) (w .lines) (map entryOf (w .fields))
   unfolding checked walked
   walked-is w =
-      let t = fits-takes sheet mostFields [] {fs = w .fields} (omega arith) (w .inside) (beside-none (w .fields)) (w .apart) in
-      let c = table-goes im A sheet mostFields deepestTable prologBytes 0 0 [] (w .fields) (w .lines) (w .table) t (omega arith) in
+      let t = fits-takes extent mostFields [] {fs = w .fields} (omega arith) (w .inside) (beside-none (w .fields)) (w .apart) in
+      let c = table-goes im A extent mostFields deepestTable prologBytes 0 0 [] (w .fields) (w .lines) (w .table) t (omega arith) in
       record { end = c .end; is = if-eq (prologCode im) 0 _ _ (prolog-is im (w .prolog)) ∙ c .is ∙ rw zero-add }
 
-  pub well-formed-is-accepted : WellFormed im sheet → refusalOf im sheet ≡ 0
+  pub well-formed-is-accepted : WellFormed im extent → refusalOf im extent ≡ 0
   unfolding refusalOf
   well-formed-is-accepted w = ap (λ (s : State). s .progress .refusal) (walked-is w .is)
 
-  accepted-walk : walked im sheet .progress .refusal ≡ 0 → Prolog im → WellFormed im sheet
+  accepted-walk : walked im extent .progress .refusal ≡ 0 → Prolog im → WellFormed im extent
   unfolding walked fine
   accepted-walk z p =
-      let r = table-read im A sheet mostFields deepestTable prologBytes 0 0 [] (eq-eqb _ 0 z) in
-      let f = takes-fits sheet mostFields (omega arith) (r .takes) in
+      let r = table-read im A extent mostFields deepestTable prologBytes 0 0 [] (eq-eqb _ 0 z) in
+      let f = takes-fits extent mostFields (omega arith) (r .takes) in
       record {
         fields = r .fields;
         lines = r .count;
@@ -83,27 +83,27 @@ module _ (im : List ℕ) (sheet : ℕ) (A : Agree im) where
         apart = f .apart;
       }
 
-  pub accepted-is-well-formed : refusalOf im sheet ≡ 0 → WellFormed im sheet
+  pub accepted-is-well-formed : refusalOf im extent ≡ 0 → WellFormed im extent
   unfolding refusalOf checked
   accepted-is-well-formed =
-      if-ind (λ (s : State). s .progress .refusal ≡ 0 → WellFormed im sheet) (prologCode im =? 0)
+      if-ind (λ (s : State). s .progress .refusal ≡ 0 → WellFormed im extent) (prologCode im =? 0)
       (λ e z. accepted-walk z (prolog-read im (eqb-true _ 0 e)))
       (λ e z. absurd (eqb-false (prologCode im) 0 e z))
 
 -- 01: an image is refused with no number exactly when it is well formed
 pub accepted-exactly-when-well-formed :
-    (im : List ℕ) (sheet : ℕ) → Agree im → ((refusalOf im sheet ≡ 0 → WellFormed im sheet) × (WellFormed im sheet → refusalOf im sheet ≡ 0))
-accepted-exactly-when-well-formed im sheet A = (accepted-is-well-formed im sheet A, well-formed-is-accepted im sheet A)
+    (im : List ℕ) (extent : ℕ) → Agree im → ((refusalOf im extent ≡ 0 → WellFormed im extent) × (WellFormed im extent → refusalOf im extent ≡ 0))
+accepted-exactly-when-well-formed im extent A = (accepted-is-well-formed im extent A, well-formed-is-accepted im extent A)
 
 -- what the check has counted and put into the index
-pub record Counted (im : List ℕ) (sheet : ℕ) (w : WellFormed im sheet) : Type 0 where
-  pub lines : checked im sheet .progress .lines ≡ w .lines
-  pub fields : checked im sheet .progress .fields ≡ length (w .fields)
-  pub index : checked im sheet .fields ≡ map entryOf (w .fields)
+pub record Counted (im : List ℕ) (extent : ℕ) (w : WellFormed im extent) : Type 0 where
+  pub lines : checked im extent .progress .lines ≡ w .lines
+  pub fields : checked im extent .progress .fields ≡ length (w .fields)
+  pub index : checked im extent .fields ≡ map entryOf (w .fields)
 
-pub counted : (im : List ℕ) (sheet : ℕ) → Agree im → (w : WellFormed im sheet) → Counted im sheet w
-counted im sheet A w =
-    let e = walked-is im sheet A w .is in
+pub counted : (im : List ℕ) (extent : ℕ) → Agree im → (w : WellFormed im extent) → Counted im extent w
+counted im extent A w =
+    let e = walked-is im extent A w .is in
     record {
       lines = ap (λ (s : State). s .progress .lines) e;
       fields = ap (λ (s : State). s .progress .fields) e ∙ length-map (w .fields) entryOf;

@@ -20,9 +20,9 @@ use Rattle.acceptance.proofs.PartJudging.{part-judged}
 
 -- the refusal with which the check answers at a structure that has so many lines and these fields before it
 abbrev pub answer : List ℕ → ℕ → ℕ → Structure → ℕ → List Entry → ℕ
-answer im sheet most (Structure.title left t) lines es = titleAnswer im left t
-answer im sheet most (Structure.head n before at p) lines es = onHead im sheet most n before p (cameTo at lines es) .progress .refusal
-answer im sheet most (Structure.component at p) lines es = onComponent im sheet most p (cameTo at lines es) .progress .refusal
+answer im extent most (Structure.title left t) lines es = titleAnswer im left t
+answer im extent most (Structure.head n before at p) lines es = onHead im extent most n before p (cameTo at lines es) .progress .refusal
+answer im extent most (Structure.component at p) lines es = onComponent im extent most p (cameTo at lines es) .progress .refusal
 
 -- a component that the walk comes to is at the first even offset
 pub data Sits : Structure → Type 0 where
@@ -61,11 +61,11 @@ module _ (im : List ℕ) where
 
 -- the answer at a structure is the lowest number that applies to it
 pub judged :
-    (im : List ℕ) (sheet lines : ℕ) (fs : List Field) (x : Structure) → Sits x → Judged (Applies im sheet fs lines x) (answer im sheet mostFields x lines (map entryOf fs))
+    (im : List ℕ) (extent lines : ℕ) (fs : List Field) (x : Structure) → Sits x → Judged (Applies im extent fs lines x) (answer im extent mostFields x lines (map entryOf fs))
 unfolding Applies
-judged im sheet lines fs (Structure.title left t) s = title-judged im left t
-judged im sheet lines fs (Structure.head n before at p) s = head-judged im lines n before at p sheet mostFields (map entryOf fs)
-judged im sheet lines fs (Structure.component at p) (Sits.component o) = part-judged im sheet fs at p lines o
+judged im extent lines fs (Structure.title left t) s = title-judged im left t
+judged im extent lines fs (Structure.head n before at p) s = head-judged im lines n before at p extent mostFields (map entryOf fs)
+judged im extent lines fs (Structure.component at p) (Sits.component o) = part-judged im extent fs at p lines o
 
 -- ---- two steps in turn
 

@@ -167,31 +167,31 @@ pos-suc n h = omega arith
 hundred : (n : ℕ) → n < 100 → 100 - n ≡ suc (100 - (n + 1))
 hundred n h = omega arith
 
-module _ (im : List ℕ) (sheet : ℕ) where
+module _ (im : List ℕ) (extent : ℕ) where
   -- ---- components
 
   module _
-      (most k left p : ℕ) (s t : State) (c : Component) (h : 0 < left) (z : k ≡ most) (e : c ≡ componentAt im p) (f : t ≡ takeComponent im sheet k p c s) where
-    components-one : onComponents im sheet most (componentsFrom im left p) s
-        ≡ andThen t (onComponents im sheet most (if c .last then [] else componentsFrom im (left - 1) (c .next)) t)
+      (most k left p : ℕ) (s t : State) (c : Component) (h : 0 < left) (z : k ≡ most) (e : c ≡ componentAt im p) (f : t ≡ takeComponent im extent k p c s) where
+    components-one : onComponents im extent most (componentsFrom im left p) s
+        ≡ andThen t (onComponents im extent most (if c .last then [] else componentsFrom im (left - 1) (c .next)) t)
     unfolding componentsFrom onComponents onComponent
     components-one =
-        let g : t ≡ takeComponent im sheet most p c s = f ∙ ap (λ (j : ℕ). takeComponent im sheet j p c s) z in
-        ap (λ (n : ℕ). onComponents im sheet most (componentsFrom im n p) s) (sym (pos-suc left h)) ∙ simp (← e, ← g)
+        let g : t ≡ takeComponent im extent most p c s = f ∙ ap (λ (j : ℕ). takeComponent im extent j p c s) z in
+        ap (λ (n : ℕ). onComponents im extent most (componentsFrom im n p) s) (sym (pos-suc left h)) ∙ simp (← e, ← g)
 
-    pub components-stop : (t .progress .refusal ≡ 0 → ⊥) → onComponents im sheet most (componentsFrom im left p) s ≡ t
+    pub components-stop : (t .progress .refusal ≡ 0 → ⊥) → onComponents im extent most (componentsFrom im left p) s ≡ t
     components-stop n = components-one ∙ then-no _ _ n
 
-    pub components-last : t .progress .refusal ≡ 0 → c .last ≡ true → onComponents im sheet most (componentsFrom im left p) s ≡ t
+    pub components-last : t .progress .refusal ≡ 0 → c .last ≡ true → onComponents im extent most (componentsFrom im left p) s ≡ t
     unfolding onComponents if_then_else_
     components-last y l = components-one ∙ then-yes _ _ y ∙ rw l
 
     pub components-next : t .progress .refusal ≡ 0 → c .last ≡ false
-        → onComponents im sheet most (componentsFrom im left p) s ≡ onComponents im sheet most (componentsFrom im (left - 1) (c .next)) t
+        → onComponents im extent most (componentsFrom im left p) s ≡ onComponents im extent most (componentsFrom im (left - 1) (c .next)) t
     unfolding if_then_else_
     components-next y l = components-one ∙ then-yes _ _ y ∙ rw l
 
-  pub components-done : (most left p : ℕ) (s : State) → left ≤ 0 → onComponents im sheet most (componentsFrom im left p) s ≡ s
+  pub components-done : (most left p : ℕ) (s : State) → left ≤ 0 → onComponents im extent most (componentsFrom im left p) s ≡ s
   unfolding onComponents componentsFrom
   components-done most left p s h = let e : left ≡ 0 = omega arith in rw e
 
@@ -200,9 +200,9 @@ module _ (im : List ℕ) (sheet : ℕ) where
   module _
       (most below n before p : ℕ) (w v : Progress) (xs : List ℕ) (h : Head) (e : h ≡ headAt im p) (f : v ≡ takeLine im n before p h w) where
     abbrev line : State
-    line = onLine im sheet most (onTable im sheet most below) n before p (seen w xs)
+    line = onLine im extent most (onTable im extent most below) n before p (seen w xs)
 
-    headed : seen v xs ≡ onHead im sheet most n before p (seen w xs)
+    headed : seen v xs ≡ onHead im extent most n before p (seen w xs)
     unfolding onHead
     headed =
         let g : v .fields ≡ w .fields = ap (λ (r : Progress). r .fields) f ∙ line-fields im n before p h w in
@@ -213,22 +213,22 @@ module _ (im : List ℕ) (sheet : ℕ) where
     unfolding onLine
     line-stop b = sym (rw (← headed) (then-no (seen v xs) _ b))
 
-    line-body : v .refusal ≡ 0 → line ≡ onBody im sheet most (onTable im sheet most below) p (seen v xs)
+    line-body : v .refusal ≡ 0 → line ≡ onBody im extent most (onTable im extent most below) p (seen v xs)
     unfolding onLine
     line-body y = rw (← headed) (then-yes (seen v xs) _ y)
 
     module _
         (y : v .refusal ≡ 0) (q : State)
-        (g : q ≡ onComponents im sheet most (componentsFrom im (length im + 1) (h .component)) (seen v xs)) where
-      walked : q ≡ onComponents im sheet most (componentsOf im p) (seen v xs)
+        (g : q ≡ onComponents im extent most (componentsFrom im (length im + 1) (h .component)) (seen v xs)) where
+      walked : q ≡ onComponents im extent most (componentsOf im p) (seen v xs)
       unfolding componentsOf
-      walked = g ∙ ap (λ (k : Head). onComponents im sheet most (componentsFrom im (length im + 1) (k .component)) (seen v xs)) e
+      walked = g ∙ ap (λ (k : Head). onComponents im extent most (componentsFrom im (length im + 1) (k .component)) (seen v xs)) e
 
       pub line-bad : (q .progress .refusal ≡ 0 → ⊥) → q ≡ line
       unfolding onBody
       line-bad b = sym (line-body y ∙ rw (← walked) (then-no q _ b))
 
-      line-submenu : q .progress .refusal ≡ 0 → line ≡ onSubmenu im sheet most (onTable im sheet most below) h q
+      line-submenu : q .progress .refusal ≡ 0 → line ≡ onSubmenu im extent most (onTable im extent most below) h q
       unfolding onBody
       line-submenu a = line-body y ∙ rw (← walked, ← e) (then-yes q _ a)
 
@@ -237,10 +237,10 @@ module _ (im : List ℕ) (sheet : ℕ) where
       line-plain a b = sym (line-submenu a ∙ rw b)
 
       pub line-deep : (k : ℕ) (t r : Progress) (ys : List ℕ) → k ≡ most → q .progress .refusal ≡ 0 → h .submenu ≡ true
-          → seen t ys ≡ onTable im sheet k below (h .table) q → r ≡ pastLine t (q .progress .at) → seen r ys ≡ line
+          → seen t ys ≡ onTable im extent k below (h .table) q → r ≡ pastLine t (q .progress .at) → seen r ys ≡ line
       unfolding onSubmenu if_then_else_
       line-deep k t r ys z a b u i =
-          let d : seen t ys ≡ onTable im sheet most below (h .table) q = u ∙ ap (λ (j : ℕ). onTable im sheet j below (h .table) q) z in
+          let d : seen t ys ≡ onTable im extent most below (h .table) q = u ∙ ap (λ (j : ℕ). onTable im extent j below (h .table) q) z in
           rw i (sym (line-submenu a ∙ rw (b, ← d)))
 
   -- ---- a table
@@ -253,16 +253,16 @@ module _ (im : List ℕ) (sheet : ℕ) where
       ∙ ap (λ (g : Head). p ∷ (if g .last then [] else linesFrom im (100 - (n + 1)) (g .next))) (sym e)
 
   module _
-      (most k below n before p : ℕ) (s t : State) (l : n < 100) (z : k ≡ most) (f : t ≡ onLine im sheet k (onTable im sheet k below) n before p s) where
+      (most k below n before p : ℕ) (s t : State) (l : n < 100) (z : k ≡ most) (f : t ≡ onLine im extent k (onTable im extent k below) n before p s) where
     abbrev rest : State
-    rest = onLines im sheet most (onTable im sheet most below) n before (linesFrom im (100 - n) p) s
+    rest = onLines im extent most (onTable im extent most below) n before (linesFrom im (100 - n) p) s
 
     lines-one : (h : Head) → h ≡ headAt im p
-        → rest ≡ andThen t (onLines im sheet most (onTable im sheet most below) (n + 1) p (if h .last then [] else linesFrom im (100 - (n + 1)) (h .next)) t)
+        → rest ≡ andThen t (onLines im extent most (onTable im extent most below) (n + 1) p (if h .last then [] else linesFrom im (100 - (n + 1)) (h .next)) t)
     unfolding onLines
     lines-one h e =
-        let g : t ≡ onLine im sheet most (onTable im sheet most below) n before p s = f ∙ ap (λ (j : ℕ). onLine im sheet j (onTable im sheet j below) n before p s) z in
-        ap (λ (ps : List ℕ). onLines im sheet most (onTable im sheet most below) n before ps s) (lines-here n p h l e) ∙ simp (← g)
+        let g : t ≡ onLine im extent most (onTable im extent most below) n before p s = f ∙ ap (λ (j : ℕ). onLine im extent j (onTable im extent j below) n before p s) z in
+        ap (λ (ps : List ℕ). onLines im extent most (onTable im extent most below) n before ps s) (lines-here n p h l e) ∙ simp (← g)
 
     pub lines-stop : (t .progress .refusal ≡ 0 → ⊥) → rest ≡ t
     lines-stop b = lines-one (headAt im p) refl ∙ then-no _ _ b
@@ -272,39 +272,39 @@ module _ (im : List ℕ) (sheet : ℕ) where
     lines-last h e y a = lines-one h e ∙ then-yes _ _ y ∙ rw a
 
     pub lines-next : (h : Head) → h ≡ headAt im p → t .progress .refusal ≡ 0 → h .last ≡ false
-        → rest ≡ onLines im sheet most (onTable im sheet most below) (n + 1) p (linesFrom im (100 - (n + 1)) (h .next)) t
+        → rest ≡ onLines im extent most (onTable im extent most below) (n + 1) p (linesFrom im (100 - (n + 1)) (h .next)) t
     unfolding if_then_else_
     lines-next h e y a = lines-one h e ∙ then-yes _ _ y ∙ rw a
 
   pub lines-done : (most below n before p : ℕ) (s : State) → 100 ≤ n
-      → onLines im sheet most (onTable im sheet most below) n before (linesFrom im (100 - n) p) s ≡ s
+      → onLines im extent most (onTable im extent most below) n before (linesFrom im (100 - n) p) s ≡ s
   unfolding onLines linesFrom
   lines-done most below n before p s h = let e : 100 - n ≡ 0 = omega arith in rw e
 
   module _ (most left at : ℕ) (w v : Progress) (xs : List ℕ) (t : Title) (e : t ≡ titleAt im at) (f : v ≡ takeTitle t w) where
-    entered : seen v xs ≡ onTitle im sheet most at (seen w xs)
+    entered : seen v xs ≡ onTitle im extent most at (seen w xs)
     unfolding onTitle
     entered =
         let g : v .fields ≡ w .fields = ap (λ (r : Progress). r .fields) f ∙ title-fields t w in
         ap (λ (j : ℕ). state v (listed xs j)) g
         ∙ ap (λ (r : Progress). state r (listed xs (w .fields))) (f ∙ ap (λ (k : Title). takeTitle k w) e)
 
-    stop-by : (d : ℕ) → (v .refusal ≡ 0 → ⊥) → seen v xs ≡ onTable im sheet most d at (seen w xs)
+    stop-by : (d : ℕ) → (v .refusal ≡ 0 → ⊥) → seen v xs ≡ onTable im extent most d at (seen w xs)
     unfolding onTable
     stop-by zero b = sym (rw (← entered) (then-no (seen v xs) _ b))
     stop-by (suc d) b = sym (rw (← entered) (then-no (seen v xs) _ b))
 
-    pub table-stop : (v .refusal ≡ 0 → ⊥) → seen v xs ≡ onTable im sheet most left at (seen w xs)
+    pub table-stop : (v .refusal ≡ 0 → ⊥) → seen v xs ≡ onTable im extent most left at (seen w xs)
     table-stop b = stop-by left b
 
-    pub table-deep : (r : Progress) → v .refusal ≡ 0 → left ≡ 0 → r ≡ refused v 8 → seen r xs ≡ onTable im sheet most left at (seen w xs)
+    pub table-deep : (r : Progress) → v .refusal ≡ 0 → left ≡ 0 → r ≡ refused v 8 → seen r xs ≡ onTable im extent most left at (seen w xs)
     unfolding onTable
     table-deep r y z i = rw (z, i) (sym (rw (← entered) (then-yes (seen v xs) _ y)))
 
     pub table-lines : v .refusal ≡ 0 → (left ≡ 0 → ⊥)
-        → onTable im sheet most left at (seen w xs)
-        ≡ onLines im sheet most (onTable im sheet most (left - 1)) 0 0 (linesFrom im 100 (t .line)) (seen v xs)
+        → onTable im extent most left at (seen w xs)
+        ≡ onLines im extent most (onTable im extent most (left - 1)) 0 0 (linesFrom im 100 (t .line)) (seen v xs)
     unfolding onTable linesOf
     table-lines y z =
         let k : left ≡ suc (left - 1) = omega arith in
-        ap (λ (j : ℕ). onTable im sheet most j at (seen w xs)) k ∙ rw (← entered, ← e) (then-yes (seen v xs) _ y)
+        ap (λ (j : ℕ). onTable im extent most j at (seen w xs)) k ∙ rw (← entered, ← e) (then-yes (seen v xs) _ y)

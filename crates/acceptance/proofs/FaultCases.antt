@@ -30,8 +30,8 @@ from-two im j (PrologFault.minor x) = lit≤ tt
 from-two im j (PrologFault.mark-low x) = lit≤ tt
 from-two im j (PrologFault.mark-high x) = lit≤ tt
 
-pub nine-bytes : (sheet : ℕ) → Refused nine sheet 2
-nine-bytes sheet = Refused.prolog (record { applies = PrologFault.short (lit≤ tt); least = from-two nine })
+pub nine-bytes : (extent : ℕ) → Refused nine extent 2
+nine-bytes extent = Refused.prolog (record { applies = PrologFault.short (lit≤ tt); least = from-two nine })
 
 -- of the other byte order only row 5 applies
 from-five : (j : ℕ) → PrologFault turned j → 5 ≤ j
@@ -45,8 +45,8 @@ from-five j (PrologFault.minor x) = absurd (x refl)
 from-five j (PrologFault.mark-low x) = lit≤ tt
 from-five j (PrologFault.mark-high x) = lit≤ tt
 
-pub other-order : (sheet : ℕ) → Refused turned sheet 5
-other-order sheet = Refused.prolog (record { applies = PrologFault.mark-low (λ e. omega arith); least = from-five })
+pub other-order : (extent : ℕ) → Refused turned extent 5
+other-order extent = Refused.prolog (record { applies = PrologFault.mark-low (λ e. omega arith); least = from-five })
 
 -- after a good prolog the first structure is the top table's title, and its length byte is needed
 prolog : Prolog ten
@@ -66,9 +66,9 @@ from-six : (j : ℕ) → TitleFault ten 8 10 j → 6 ≤ j
 from-six j (TitleFault.cut c) = lit≤ tt
 from-six j (TitleFault.deep e) = lit≤ tt
 
-pub nothing-behind : (sheet : ℕ) → Refused ten sheet 6
+pub nothing-behind : (extent : ℕ) → Refused ten extent 6
 unfolding InTable Applies
-nothing-behind sheet =
+nothing-behind extent =
     Refused.progress (Structure.title 8 10) [] 0 prolog InTableOver.first
     (record { few-lines = omega arith; few-fields = lit≤ tt; inside = Every.none; apart = Apart.none })
     (record { applies = TitleFault.cut (Cut.here (lit≤ tt)); least = from-six })

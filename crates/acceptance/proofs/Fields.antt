@@ -165,7 +165,7 @@ apart-in (Every.add {f = x} {fs = xs} r rs) (Apart.add e a) f g m n = go (List·
     go (inr k) (inl q) rest = inr (rw q (swap x f (disjoint-apart x f r (every-in rs f k) (every-in e f k))))
     go (inr k) (inr l) rest = rest k l
 
-module _ (im : List ℕ) (sheet : ℕ) (w : WellFormed im sheet) where
+module _ (im : List ℕ) (extent : ℕ) (w : WellFormed im extent) where
   pub all-rooted : Every Rooted (w .fields)
   all-rooted = every-table im Rooted (component-rooted im) _ _ _ _ (w .table)
 
@@ -183,8 +183,8 @@ module _ (im : List ℕ) (sheet : ℕ) (w : WellFormed im sheet) where
   others-apart f g m n = apart-in all-rooted (w .apart) f g m n
 
   -- each lies inside the sheet
-  pub field-inside : (f : Field) → List·Memᴰ f (w .fields) → f .sheet .0 + sizeOf f ≤ sheet
+  pub field-inside : (f : Field) → List·Memᴰ f (w .fields) → f .sheet .0 + sizeOf f ≤ extent
   field-inside f m = every-in (w .inside) f m .inside
 
-  pub inside-at : (d : Field) (i : ℕ) → i < length (w .fields) → getD (w .fields) i d .sheet .0 + sizeOf (getD (w .fields) i d) ≤ sheet
+  pub inside-at : (d : Field) (i : ℕ) → i < length (w .fields) → getD (w .fields) i d .sheet .0 + sizeOf (getD (w .fields) i d) ≤ extent
   inside-at d i h = every-at (w .inside) d i h .inside

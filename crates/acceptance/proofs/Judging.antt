@@ -229,6 +229,6 @@ module _ (im : List ℕ) (lines n before at p : ℕ) where
       (λ q. absurd (eqb-false 0 0 q refl))
 
   -- the check's answer at a line's head
-  pub head-judged : (sheet most : ℕ) (es : List Entry) → Judged F (onHead im sheet most n before p (cameTo at lines es) .progress .refusal)
+  pub head-judged : (extent most : ℕ) (es : List Entry) → Judged F (onHead im extent most n before p (cameTo at lines es) .progress .refusal)
   unfolding onHead
-  head-judged sheet most es = head-by es (head-view im p)
+  head-judged extent most es = head-by es (head-view im p)

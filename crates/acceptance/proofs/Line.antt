@@ -44,12 +44,12 @@ module _ (im : List ℕ) (A : Agree im) where
   pub plain-marked : {p : ℕ} → HeadReads im p → hasSubmenu im p ≡ 0 → headAt im p .submenu ≡ false
   plain-marked {p} r b = by-test (headAt im p .submenu) (λ e. absurd (omega (arith, r .submenu e))) (λ e. e)
 
-module _ (im : List ℕ) (A : Agree im) (sheet most : ℕ) where
+module _ (im : List ℕ) (A : Agree im) (extent most : ℕ) where
   module _ (submenu : ℕ → State → State) (Sub : ℕ → List Field → ℕ → Type 0) where
     -- a submenu of the grammar is taken
     abbrev pub SubGoes : Type 0
     SubGoes =
-        (t at lines : ℕ) (es : List Entry) (fs : List Field) (k : ℕ) → Sub t fs k → Takes sheet most es fs → lines + k ≤ mostLines →
+        (t at lines : ℕ) (es : List Entry) (fs : List Field) (k : ℕ) → Sub t fs k → Takes extent most es fs → lines + k ≤ mostLines →
         Came (submenu t (cameTo at lines es)) (lines + k) (put es fs)
 
     -- what is known of a submenu that the walk takes
@@ -57,7 +57,7 @@ module _ (im : List ℕ) (A : Agree im) (sheet most : ℕ) where
       pub fields : List Field
       pub count : ℕ
       pub table : Sub t fields count
-      pub takes : Takes sheet most es fields
+      pub takes : Takes extent most es fields
       pub few : lines + count ≤ mostLines
 
     -- a submenu that the walk takes is the grammar's
@@ -68,45 +68,45 @@ module _ (im : List ℕ) (A : Agree im) (sheet most : ℕ) where
 
     -- a submenu, after which the walk goes on after the line
     submenu-goes : (p at lines : ℕ) (es es′ : List Entry) (k : ℕ) → headAt im p .submenu ≡ true → Came (submenu (headAt im p .table) (cameTo at lines es)) k es′ →
-        onSubmenu im sheet most submenu (headAt im p) (cameTo at lines es) ≡ cameTo at k es′
+        onSubmenu im extent most submenu (headAt im p) (cameTo at lines es) ≡ cameTo at k es′
     unfolding onSubmenu
     submenu-goes p at lines es es′ k e c =
         if-true _ _ e ∙ ap (λ (s : State). with s (pastLine (s .progress) at)) (c .is)
         ∙ ap (λ (x : ℕ). cameTo x k es′) (if-eq 0 0 at (c .end) refl)
 
     submenu-fine :
-        (p : ℕ) (s : State) → headAt im p .submenu ≡ true → fine (onSubmenu im sheet most submenu (headAt im p) s) ≡ true → fine (submenu (headAt im p .table) s) ≡ true
+        (p : ℕ) (s : State) → headAt im p .submenu ≡ true → fine (onSubmenu im extent most submenu (headAt im p) s) ≡ true → fine (submenu (headAt im p .table) s) ≡ true
     unfolding onSubmenu fine
     submenu-fine p s e f = rw (if-true (with (submenu (headAt im p .table) s) (pastLine (submenu (headAt im p .table) s .progress) (s .progress .at))) s e) at f
 
-    plain-goes : (p : ℕ) (s : State) → headAt im p .submenu ≡ false → onSubmenu im sheet most submenu (headAt im p) s ≡ s
+    plain-goes : (p : ℕ) (s : State) → headAt im p .submenu ≡ false → onSubmenu im extent most submenu (headAt im p) s ≡ s
     unfolding onSubmenu
     plain-goes p s e = if-false _ _ e
 
     -- head and components of the grammar are taken
     pub body-goes :
         {n before p mid end : ℕ} {fs : List Field} (at lines : ℕ) (es : List Entry) → Head im n before p mid → Components im mid end fs →
-        n < mostLinesOfTable → Aligned im 1 at p → lines < mostLines → Takes sheet most es fs →
-        onLine im sheet most submenu n before p (cameTo at lines es) ≡ onSubmenu im sheet most submenu (headAt im p) (cameTo end (lines + 1) (put es fs))
+        n < mostLinesOfTable → Aligned im 1 at p → lines < mostLines → Takes extent most es fs →
+        onLine im extent most submenu n before p (cameTo at lines es) ≡ onSubmenu im extent most submenu (headAt im p) (cameTo end (lines + 1) (put es fs))
     unfolding onLine onBody componentsOf
     body-goes {n} {before} {p} {mid} {end} {fs} at lines es h cs few a room t =
         let r = head-reads im A h in
         let i = A .head-is h in
         let c : headAt im p .component ≡ evenFrom mid = omega (arith, r .component, i .ends) in
-        then-is (onBody im sheet most submenu p) _ mid (lines + 1) es (head-goes im A sheet most n before p mid at lines es h a few room)
-        ∙ then-is (onSubmenu im sheet most submenu (headAt im p)) _ end (lines + 1) (put es fs)
-        (components-go im A sheet most cs (length im + 1) (headAt im p .component) (lines + 1) es c (omega (arith, r .after, i .ends)) t)
+        then-is (onBody im extent most submenu p) _ mid (lines + 1) es (head-goes im A extent most n before p mid at lines es h a few room)
+        ∙ then-is (onSubmenu im extent most submenu (headAt im p)) _ end (lines + 1) (put es fs)
+        (components-go im A extent most cs (length im + 1) (headAt im p .component) (lines + 1) es c (omega (arith, r .after, i .ends)) t)
 
     -- a line of the grammar is taken
     pub line-goes :
         SubGoes → {n before p end k : ℕ} {fs : List Field} → Line im Sub n before p end fs k → (at lines : ℕ) (es : List Entry) →
-        n < mostLinesOfTable → Aligned im 1 at p → Takes sheet most es fs → lines + k ≤ mostLines →
-        onLine im sheet most submenu n before p (cameTo at lines es) ≡ cameTo end (lines + k) (put es fs)
+        n < mostLinesOfTable → Aligned im 1 at p → Takes extent most es fs → lines + k ≤ mostLines →
+        onLine im extent most submenu n before p (cameTo at lines es) ≡ cameTo end (lines + k) (put es fs)
     line-goes go {p = p} (Line.plain mid h cs b) at lines es few a t l =
         body-goes at lines es h cs few a (omega arith) t ∙ plain-goes p _ (plain-marked im A (head-reads im A h) b)
     line-goes go {p = p} {end = end} (Line.submenu {fs = fs} {gs = gs} {k = k} mid h cs b s) at lines es few a t l =
         let r = head-reads im A h in
-        let u = takes-split sheet most fs {gs = gs} t in
+        let u = takes-split extent most fs {gs = gs} t in
         let c = go (headAt im p .table) end (lines + 1) (put es fs) gs k (rw (r .table) s) (u .1) (omega arith) in
         body-goes at lines es h cs few a (omega arith) (u .0)
         ∙ submenu-goes p end (lines + 1) (put es fs) (put (put es fs) gs) (lines + 1 + k) (submenu-marked im A r b) c
@@ -121,24 +121,24 @@ module _ (im : List ℕ) (A : Agree im) (sheet most : ℕ) where
       pub few : n < mostLinesOfTable
       pub aligned : Aligned im 1 at p
       pub line : Line im Sub n before p end fields count
-      pub takes : Takes sheet most es fields
+      pub takes : Takes extent most es fields
       pub room : lines + count ≤ mostLines
 
     -- a line that the walk takes is the grammar's
     pub line-read :
-        SubReads → (n before p at lines : ℕ) (es : List Entry) → fine (onLine im sheet most submenu n before p (cameTo at lines es)) ≡ true →
+        SubReads → (n before p at lines : ℕ) (es : List Entry) → fine (onLine im extent most submenu n before p (cameTo at lines es)) ≡ true →
         LineRead n before p at lines es
     unfolding onLine onBody componentsOf
     line-read reads n before p at lines es f = by-test (headAt im p .submenu) deep plain
       where
         S : State
-        S = onHead im sheet most n before p (cameTo at lines es)
+        S = onHead im extent most n before p (cameTo at lines es)
 
-        t : Then S (onBody im sheet most submenu p S)
+        t : Then S (onBody im extent most submenu p S)
         t = then-fine S _ f
 
-        h : Headed im A sheet most n before p at lines
-        h = head-read im A sheet most n before p at lines es (t .before)
+        h : Headed im A extent most n before p at lines
+        h = head-read im A extent most n before p at lines es (t .before)
 
         r : HeadReads im p
         r = A .head-reads p (h .refusal)
@@ -147,27 +147,27 @@ module _ (im : List ℕ) (A : Agree im) (sheet most : ℕ) where
         mid = headAt im p .end
 
         step : S ≡ cameTo mid (lines + 1) es
-        step = head-goes im A sheet most n before p mid at lines es (h .head) (h .aligned) (h .few) (h .room)
+        step = head-goes im A extent most n before p mid at lines es (h .head) (h .aligned) (h .few) (h .room)
 
-        body : fine (onBody im sheet most submenu p (cameTo mid (lines + 1) es)) ≡ true
+        body : fine (onBody im extent most submenu p (cameTo mid (lines + 1) es)) ≡ true
         body = rw step at (t .after)
 
         C : State
-        C = onComponents im sheet most (componentsOf im p) (cameTo mid (lines + 1) es)
+        C = onComponents im extent most (componentsOf im p) (cameTo mid (lines + 1) es)
 
-        u : Then C (onSubmenu im sheet most submenu (headAt im p) C)
+        u : Then C (onSubmenu im extent most submenu (headAt im p) C)
         u = then-fine C _ body
 
         enough : length im + 1 < headAt im p .component + (length im + 1)
         enough = omega (arith, r .component, r .after)
 
-        c : Parts im A sheet most mid es
-        c = components-read im A sheet most (length im + 1) (headAt im p .component) mid (lines + 1) es (r .component) (r .inside) enough (u .before)
+        c : Parts im A extent most mid es
+        c = components-read im A extent most (length im + 1) (headAt im p .component) mid (lines + 1) es (r .component) (r .inside) enough (u .before)
 
         on : C ≡ cameTo (c .end) (lines + 1) (put es (c .fields))
-        on = components-go im A sheet most (c .components) (length im + 1) (headAt im p .component) (lines + 1) es (r .component) enough (c .takes)
+        on = components-go im A extent most (c .components) (length im + 1) (headAt im p .component) (lines + 1) es (r .component) enough (c .takes)
 
-        rest : fine (onSubmenu im sheet most submenu (headAt im p) (cameTo (c .end) (lines + 1) (put es (c .fields)))) ≡ true
+        rest : fine (onSubmenu im extent most submenu (headAt im p) (cameTo (c .end) (lines + 1) (put es (c .fields)))) ≡ true
         rest = rw on at (u .after)
 
         plain : headAt im p .submenu ≡ false → LineRead n before p at lines es
@@ -194,6 +194,6 @@ module _ (im : List ℕ) (A : Agree im) (sheet most : ℕ) where
               few = h .few;
               aligned = h .aligned;
               line = Line.submenu mid (h .head) (c .components) (r .submenu e) (subst (λ (x : ℕ). Sub x (d .fields) (d .count)) (r .table) (d .table));
-              takes = takes-join sheet most (c .takes) (d .takes);
+              takes = takes-join extent most (c .takes) (d .takes);
               room = omega (arith, d .few);
             }

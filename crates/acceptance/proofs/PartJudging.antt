@@ -83,9 +83,9 @@ module _ {f : Field} where
 
 -- ---- a component
 
-module _ (im : List ℕ) (sheet : ℕ) (fs : List Field) (at p : ℕ) where
+module _ (im : List ℕ) (extent : ℕ) (fs : List Field) (at p : ℕ) where
   abbrev F : ℕ → Type 0
-  F = ComponentFault im sheet fs at p
+  F = ComponentFault im extent fs at p
 
   abbrev is : {b t : ℕ} {f : Field} → Form im p b t (f ∷ []) → FieldIs im p f
   is {b} {t} x = record { bytes = b; texts = t; form = x }
@@ -97,7 +97,7 @@ module _ (im : List ℕ) (sheet : ℕ) (fs : List Field) (at p : ℕ) where
 
   part-least :
       (k : ℕ) → (6 < k → ComponentCut im p → ⊥) → (7 < k → Right) → (8 < k → (f : Field) → FieldIs im p f → length fs < mostFields) →
-      (9 < k → (f : Field) → FieldIs im p f → GoodSettings f) → (10 < k → (f : Field) → FieldIs im p f → InSheet sheet f) →
+      (9 < k → (f : Field) → FieldIs im p f → GoodSettings f) → (10 < k → (f : Field) → FieldIs im p f → InSheet extent f) →
       (11 < k → (f : Field) → FieldIs im p f → Shares f fs → ⊥) → (j : ℕ) → F j → k ≤ j
   part-least k a b c d e g j (ComponentFault.cut x) = not-below k 6 (λ l. a l x)
   part-least k a b c d e g j (ComponentFault.wrong x) = not-below k 7 (λ l. b l .right x)
@@ -120,11 +120,11 @@ module _ (im : List ℕ) (sheet : ℕ) (fs : List Field) (at p : ℕ) where
       (λ e. let q = eqb-false at p e in ComponentFault.padding (omega (arith, o .after)) (λ y. clash (padded-is im at p (λ _. y)) z))
 
   -- a sheet that is too long, or bytes past its end
-  beyond-sheet : {b t : ℕ} {f : Field} → Form im p b t (f ∷ []) → inSheet sheet (entryOf f) ≡ false → F 10
+  beyond-sheet : {b t : ℕ} {f : Field} → Form im p b t (f ∷ []) → inSheet extent (entryOf f) ≡ false → F 10
   unfolding inSheet
   beyond-sheet {f = f} form i =
-      by-test (sheet ≤? longestSheet)
-      (λ y. ComponentFault.outside (is form) (room-gt sheet (f .sheet .0) (sizeOf f) (sym (and-true _ y) ∙ i))) (λ y. ComponentFault.long (is form) (leb-false sheet longestSheet y))
+      by-test (extent ≤? longestSheet)
+      (λ y. ComponentFault.outside (is form) (room-gt extent (f .sheet .0) (sizeOf f) (sym (and-true _ y) ∙ i))) (λ y. ComponentFault.long (is form) (leb-false extent longestSheet y))
 
   module _ (lines : ℕ) where
     abbrev s : State
@@ -136,7 +136,7 @@ module _ (im : List ℕ) (sheet : ℕ) (fs : List Field) (at p : ℕ) where
     -- a field that is all there: rows 8 to 11
     field-by :
         {b t : ℕ} {f : Field} (x : Component) → (ComponentCut im p → ⊥) → Right → Form im p b t (f ∷ []) → x .field ≡ f → Settings f (x .refusal) →
-        J (takeField sheet mostFields x s)
+        J (takeField extent mostFields x s)
     unfolding takeField
     field-by {b} {t} {f} x u r form e st =
         if-ind J (mostFields ≤? length (map entryOf fs))
@@ -145,8 +145,8 @@ module _ (im : List ℕ) (sheet : ℕ) (fs : List Field) (at p : ℕ) where
         (λ m. let few : length fs < mostFields = omega (arith, leb-false mostFields (length (map entryOf fs)) m, n) in
         if-ind J (x .refusal =? 0)
         (λ z. let good : (g : Field) → FieldIs im p g → GoodSettings g = λ g h. rw (same h) (is-good st (eqb-true _ 0 z)) in
-        if-ind J (inSheet sheet (entryOf (x .field)))
-        (λ i. let inside : (g : Field) → FieldIs im p g → InSheet sheet g = λ g h. rw (same h) (sheet-reads sheet f (rw e at i)) in
+        if-ind J (inSheet extent (entryOf (x .field)))
+        (λ i. let inside : (g : Field) → FieldIs im p g → InSheet extent g = λ g h. rw (same h) (sheet-reads extent f (rw e at i)) in
         if-ind J (apartFrom (entryOf (x .field)) (map entryOf fs))
         (λ a. no-fault refl (λ j q. let l = part-least (j + 1) (λ _. u) (λ _. r) (λ _ _ _. few) (λ _. good) (λ _. inside)
         (λ _ g h. rw (same h) (shares-none f (rw e at a))) j q in omega arith))
@@ -164,7 +164,7 @@ module _ (im : List ℕ) (sheet : ℕ) (fs : List Field) (at p : ℕ) where
         same : {g : Field} → FieldIs im p g → g ≡ f
         same h = same-field im p (h .form) form
 
-    part-by : {x : Component} → FirstOfParity 0 at p → View im p x → J (takeComponent im sheet mostFields p x s)
+    part-by : {x : Component} → FirstOfParity 0 at p → View im p x → J (takeComponent im extent mostFields p x s)
     unfolding takeComponent
     part-by {x} o (View.cut c e) =
         if-ind J (x .refusal =? 6)
@@ -199,6 +199,6 @@ module _ (im : List ℕ) (sheet : ℕ) (fs : List Field) (at p : ℕ) where
         (λ z. at-fault 7 refl (omega arith) (not-padded o z) (seven u)))
 
     -- the check's answer at a component
-    pub part-judged : FirstOfParity 0 at p → J (onComponent im sheet mostFields p s)
+    pub part-judged : FirstOfParity 0 at p → J (onComponent im extent mostFields p s)
     unfolding onComponent
     part-judged o = part-by o (view im p)

@@ -57,34 +57,34 @@ module _ (im : List ℕ) (A : Agree im) where
       let s = A .even-is a .stands in
       record { here = e ∙ sym s; next = omega (arith, r .next, i .ends); enough = omega (arith, s, r .next, r .after) }
 
-module _ (im : List ℕ) (A : Agree im) (sheet most : ℕ) where
+module _ (im : List ℕ) (A : Agree im) (extent most : ℕ) where
   -- one component, and then the others
   pub walk-on :
-      (c : ℕ) (cs : List ℕ) (s : State) (at lines : ℕ) (es : List Entry) → onComponent im sheet most c s ≡ cameTo at lines es →
-      onComponents im sheet most (c ∷ cs) s ≡ onComponents im sheet most cs (cameTo at lines es)
+      (c : ℕ) (cs : List ℕ) (s : State) (at lines : ℕ) (es : List Entry) → onComponent im extent most c s ≡ cameTo at lines es →
+      onComponents im extent most (c ∷ cs) s ≡ onComponents im extent most cs (cameTo at lines es)
   unfolding onComponents
-  walk-on c cs s at lines es e = then-is (onComponents im sheet most cs) (onComponent im sheet most c s) at lines es e
+  walk-on c cs s at lines es e = then-is (onComponents im extent most cs) (onComponent im extent most c s) at lines es e
 
-  walk-done : (s : State) → onComponents im sheet most [] s ≡ s
+  walk-done : (s : State) → onComponents im extent most [] s ≡ s
   unfolding onComponents
   walk-done s = refl
 
   -- components of the grammar are taken
   pub components-go :
       {at end : ℕ} {fs : List Field} → Components im at end fs →
-      (k c lines : ℕ) (es : List Entry) → c ≡ evenFrom at → length im + 1 < c + k → Takes sheet most es fs →
-      onComponents im sheet most (componentsFrom im k c) (cameTo at lines es) ≡ cameTo end lines (put es fs)
+      (k c lines : ℕ) (es : List Entry) → c ≡ evenFrom at → length im + 1 < c + k → Takes extent most es fs →
+      onComponents im extent most (componentsFrom im k c) (cameTo at lines es) ≡ cameTo end lines (put es fs)
   components-go (Components.last p a x l) zero c lines es e h t = no-turns im A a x c e h
   components-go {at} {end} {fs} (Components.last p a x l) (suc k) c lines es e h t =
-      ap (λ (cs : List ℕ). onComponents im sheet most cs (cameTo at lines es)) (rw (turn im A a x k c e h .here) (places-last im k p (last-true im A x l)))
-      ∙ walk-on p [] (cameTo at lines es) end lines (put es fs) (component-goes im A sheet most p end at lines es fs x a t)
+      ap (λ (cs : List ℕ). onComponents im extent most cs (cameTo at lines es)) (rw (turn im A a x k c e h .here) (places-last im k p (last-true im A x l)))
+      ∙ walk-on p [] (cameTo at lines es) end lines (put es fs) (component-goes im A extent most p end at lines es fs x a t)
       ∙ walk-done (cameTo end lines (put es fs))
   components-go (Components.more p mid a x l r) zero c lines es e h t = no-turns im A a x c e h
   components-go {at} {end} (Components.more {fs = fs} {gs = gs} p mid a x l r) (suc k) c lines es e h t =
       let n = turn im A a x k c e h in
-      let u = takes-split sheet most fs {gs = gs} t in
-      ap (λ (cs : List ℕ). onComponents im sheet most cs (cameTo at lines es)) (rw (n .here) (places-more im k p (last-false im A x l)))
-      ∙ walk-on p _ (cameTo at lines es) mid lines (put es fs) (component-goes im A sheet most p mid at lines es fs x a (u .0))
+      let u = takes-split extent most fs {gs = gs} t in
+      ap (λ (cs : List ℕ). onComponents im extent most cs (cameTo at lines es)) (rw (n .here) (places-more im k p (last-false im A x l)))
+      ∙ walk-on p _ (cameTo at lines es) mid lines (put es fs) (component-goes im A extent most p mid at lines es fs x a (u .0))
       ∙ components-go r k (componentAt im p .next) lines (put es fs) (n .next) (n .enough) (u .1)
       ∙ ap (cameTo end lines) (put-put es fs gs)
 
@@ -93,12 +93,12 @@ module _ (im : List ℕ) (A : Agree im) (sheet most : ℕ) where
     pub end : ℕ
     pub fields : List Field
     pub components : Components im at end fields
-    pub takes : Takes sheet most es fields
+    pub takes : Takes extent most es fields
 
   abbrev Reads : ℕ → Type 0
   Reads k =
       (c at lines : ℕ) (es : List Entry) → c ≡ evenFrom at → at ≤ length im → length im + 1 < c + k →
-      fine (onComponents im sheet most (componentsFrom im k c) (cameTo at lines es)) ≡ true → Parts at es
+      fine (onComponents im extent most (componentsFrom im k c) (cameTo at lines es)) ≡ true → Parts at es
 
   -- one turn of it
   one-read : (k : ℕ) → Reads k → Reads (suc k)
@@ -106,13 +106,13 @@ module _ (im : List ℕ) (A : Agree im) (sheet most : ℕ) where
   one-read k rest c at lines es e i h f = by-test (componentAt im c .last) last more
     where
       one : State
-      one = onComponent im sheet most c (cameTo at lines es)
+      one = onComponent im extent most c (cameTo at lines es)
 
-      t : Then one (onComponents im sheet most (if componentAt im c .last then [] else componentsFrom im k (componentAt im c .next)) one)
+      t : Then one (onComponents im extent most (if componentAt im c .last then [] else componentsFrom im k (componentAt im c .next)) one)
       t = then-fine one _ f
 
-      w : Taken im A sheet most c at es
-      w = component-read im A sheet most c at lines es (t .before)
+      w : Taken im A extent most c at es
+      w = component-read im A extent most c at lines es (t .before)
 
       r : ComponentReads im c
       r = A .component-reads c (w .refusal)
@@ -127,7 +127,7 @@ module _ (im : List ℕ) (A : Agree im) (sheet most : ℕ) where
       aligned = A .even-aligned at c (record { stands = e; zeroed = w .padding }) (omega (arith, r .after, r .inside))
 
       step : one ≡ cameTo end lines (put es fs)
-      step = component-goes im A sheet most c end at lines es fs (r .component) aligned (w .takes)
+      step = component-goes im A extent most c end at lines es fs (r .component) aligned (w .takes)
 
       last : componentAt im c .last ≡ true → Parts at es
       last l = record { end = end; fields = fs; components = Components.last c aligned (r .component) (r .last l); takes = w .takes }
@@ -140,7 +140,7 @@ module _ (im : List ℕ) (A : Agree im) (sheet most : ℕ) where
             end = b .end;
             fields = fs ++ b .fields;
             components = Components.more c end aligned (r .component) (r .more l) (b .components);
-            takes = takes-join sheet most (w .takes) (b .takes);
+            takes = takes-join extent most (w .takes) (b .takes);
           }
 
   -- components that the walk takes are the grammar's

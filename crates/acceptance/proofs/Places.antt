@@ -95,6 +95,6 @@ module _ (im : List ℕ) (A : Agree im) where
       rw (first-line im A x) (lines-are (tableReach im left) (Table im left) (table-are left) (x .lines) (mostLinesOfTable + 1) refl)
 
   -- the fields of a well-formed image, whatever the sheet
-  pub fields-are : (sheet : ℕ) (w : WellFormed im sheet) → w .fields ≡ fieldsOf im
+  pub fields-are : (extent : ℕ) (w : WellFormed im extent) → w .fields ≡ fieldsOf im
   unfolding fieldsOf componentPlaces
-  fields-are sheet w = sym (table-are deepestTable prologBytes (w .fields) (w .lines) (w .table))
+  fields-are extent w = sym (table-are deepestTable prologBytes (w .fields) (w .lines) (w .table))

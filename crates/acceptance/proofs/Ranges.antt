@@ -32,7 +32,7 @@ head-range (HeadFault.hundredth x) = (lit≤ tt, lit≤ tt)
 head-range (HeadFault.many x) = (lit≤ tt, lit≤ tt)
 head-range (HeadFault.password w x) = (lit≤ tt, lit≤ tt)
 
-part-range : {im : List ℕ} {sheet : ℕ} {fs : List Field} {at p k : ℕ} → ComponentFault im sheet fs at p k → (2 ≤ k) × (k ≤ 11)
+part-range : {im : List ℕ} {extent : ℕ} {fs : List Field} {at p k : ℕ} → ComponentFault im extent fs at p k → (2 ≤ k) × (k ≤ 11)
 part-range (ComponentFault.cut x) = (lit≤ tt, lit≤ tt)
 part-range (ComponentFault.wrong x) = (lit≤ tt, lit≤ tt)
 part-range (ComponentFault.padding h x) = (lit≤ tt, lit≤ tt)
@@ -42,12 +42,12 @@ part-range (ComponentFault.long f x) = (lit≤ tt, lit≤ tt)
 part-range (ComponentFault.outside f x) = (lit≤ tt, lit≤ tt)
 part-range (ComponentFault.shared f x) = (lit≤ tt, lit≤ tt)
 
-applies-range : (im : List ℕ) (sheet : ℕ) (fs : List Field) (lines : ℕ) (x : Structure) (k : ℕ) → Applies im sheet fs lines x k → (2 ≤ k) × (k ≤ 11)
+applies-range : (im : List ℕ) (extent : ℕ) (fs : List Field) (lines : ℕ) (x : Structure) (k : ℕ) → Applies im extent fs lines x k → (2 ≤ k) × (k ≤ 11)
 unfolding Applies
-applies-range im sheet fs lines (Structure.title left t) k f = title-range f
-applies-range im sheet fs lines (Structure.head n before at p) k f = head-range f
-applies-range im sheet fs lines (Structure.component at p) k f = part-range f
+applies-range im extent fs lines (Structure.title left t) k f = title-range f
+applies-range im extent fs lines (Structure.head n before at p) k f = head-range f
+applies-range im extent fs lines (Structure.component at p) k f = part-range f
 
-pub refused-range : {im : List ℕ} {sheet k : ℕ} → Refused im sheet k → (2 ≤ k) × (k ≤ 11)
-refused-range {im} {sheet} {k} (Refused.prolog l) = prolog-range (l .applies)
-refused-range {im} {sheet} {k} (Refused.progress x fs lines p c kept l) = applies-range im sheet fs lines x k (l .applies)
+pub refused-range : {im : List ℕ} {extent k : ℕ} → Refused im extent k → (2 ≤ k) × (k ≤ 11)
+refused-range {im} {extent} {k} (Refused.prolog l) = prolog-range (l .applies)
+refused-range {im} {extent} {k} (Refused.progress x fs lines p c kept l) = applies-range im extent fs lines x k (l .applies)

@@ -190,5 +190,5 @@ unfolding Table
 no-levels im fields t r = absurd (r .table)
 
 -- the top table is reached
-pub top-reached : (im : List ℕ) (sheet : ℕ) (w : WellFormed im sheet) → Reached im (w .fields) deepestTable prologBytes
-top-reached im sheet w = record { own = w .fields; count = w .lines; table = w .table; isIn = λ f m. m }
+pub top-reached : (im : List ℕ) (extent : ℕ) (w : WellFormed im extent) → Reached im (w .fields) deepestTable prologBytes
+top-reached im extent w = record { own = w .fields; count = w .lines; table = w .table; isIn = λ f m. m }

@@ -34,14 +34,14 @@ padded-reads im at p =
     if-ind (λ (b : Bool). b ≡ true → (at ≡ p → ⊥) → byteAt im at ≡ 0) (at =? p)
     (λ e h n. absurd (n (eqb-true at p e))) (λ _ h n. eqb-true _ 0 h)
 
-module _ (im : List ℕ) (A : Agree im) (sheet most : ℕ) where
+module _ (im : List ℕ) (A : Agree im) (extent most : ℕ) where
   -- ---- a title: taken where it reads without fault, and nowhere else
 
-  pub title-goes : (t at lines : ℕ) (es : List Entry) → titleAt im t .refusal ≡ 0 → onTitle im sheet most t (cameTo at lines es) ≡ cameTo (titleAt im t .end) lines es
+  pub title-goes : (t at lines : ℕ) (es : List Entry) → titleAt im t .refusal ≡ 0 → onTitle im extent most t (cameTo at lines es) ≡ cameTo (titleAt im t .end) lines es
   unfolding onTitle takeTitle
   title-goes t at lines es z = ap (with (cameTo at lines es)) (if-eq (titleAt im t .refusal) 0 _ _ z)
 
-  pub title-read : (t : ℕ) (s : State) → fine (onTitle im sheet most t s) ≡ true → titleAt im t .refusal ≡ 0
+  pub title-read : (t : ℕ) (s : State) → fine (onTitle im extent most t s) ≡ true → titleAt im t .refusal ≡ 0
   unfolding onTitle takeTitle
   title-read t s =
       if-ind (λ (w : Progress). fine (with s w) ≡ true → titleAt im t .refusal ≡ 0) (titleAt im t .refusal =? 0)
@@ -68,7 +68,7 @@ module _ (im : List ℕ) (A : Agree im) (sheet most : ℕ) where
   -- a head of the grammar is taken
   pub head-goes :
       (n before p end at lines : ℕ) (es : List Entry) → Head im n before p end → Aligned im 1 at p → n < mostLinesOfTable → lines < mostLines →
-      onHead im sheet most n before p (cameTo at lines es) ≡ cameTo end (lines + 1) es
+      onHead im extent most n before p (cameTo at lines es) ≡ cameTo end (lines + 1) es
   unfolding onHead takeLine linePlaced countLine
   head-goes n before p end at lines es h a few room =
       let i = A .head-is h in
@@ -114,7 +114,7 @@ module _ (im : List ℕ) (A : Agree im) (sheet most : ℕ) where
         (λ _ h. is-refused s 8 h)))
 
     -- a head that the walk takes is the grammar's
-    pub head-read : fine (onHead im sheet most n before p s) ≡ true → Headed n before p at lines
+    pub head-read : fine (onHead im extent most n before p s) ≡ true → Headed n before p at lines
     unfolding onHead takeLine
     head-read =
         if-ind P (headAt im p .refusal =? 0)
@@ -125,8 +125,8 @@ module _ (im : List ℕ) (A : Agree im) (sheet most : ℕ) where
 
   -- a component without fault is taken with its field, if it is one
   part-goes :
-      (c : read.Component) (p at lines : ℕ) (es : List Entry) → c .refusal ≡ 0 → padded im at p ≡ true → Takes sheet most es (heldBy c) →
-      takeComponent im sheet most p c (cameTo at lines es) ≡ cameTo (c .end) lines (put es (heldBy c))
+      (c : read.Component) (p at lines : ℕ) (es : List Entry) → c .refusal ≡ 0 → padded im at p ≡ true → Takes extent most es (heldBy c) →
+      takeComponent im extent most p c (cameTo at lines es) ≡ cameTo (c .end) lines (put es (heldBy c))
   unfolding takeComponent takeField
   part-goes c p at lines es z d t =
       if-ne (c .refusal) 6 _ _ (λ e. omega arith) ∙ if-true _ _ d ∙ by-test {A = chosen ≡ cameTo (c .end) lines (put es (heldBy c))} (c .fielded) field plain
@@ -134,14 +134,14 @@ module _ (im : List ℕ) (A : Agree im) (sheet most : ℕ) where
       s : State
       s = cameTo at lines es
 
-      go : Takes sheet most es (c .field ∷ []) → takeField sheet most c s ≡ cameTo (c .end) lines (put es (c .field ∷ []))
+      go : Takes extent most es (c .field ∷ []) → takeField extent most c s ≡ cameTo (c .end) lines (put es (c .field ∷ []))
       go (Takes.add a b f u) =
           if-gt most (length es) _ _ a ∙ if-eq (c .refusal) 0 _ _ z ∙ if-true _ _ b ∙ if-true _ _ f
           ∙ ap (λ (k : ℕ). state (record { refusal = 0; at = c .end; lines = lines; fields = k }) (put es (c .field ∷ []))) (sym (length-append es (entryOf (c .field) ∷ [])))
 
       chosen : State
       chosen =
-          if c .fielded then takeField sheet most c s
+          if c .fielded then takeField extent most c s
           else if c .refusal =? 0 then with s (readTo (s .progress) (c .end))
           else with s (refused (s .progress) (c .refusal))
 
@@ -153,8 +153,8 @@ module _ (im : List ℕ) (A : Agree im) (sheet most : ℕ) where
 
   -- a component of the grammar is taken
   pub component-goes :
-      (p end at lines : ℕ) (es : List Entry) (fs : List Field) → Component im p end fs → Aligned im 0 at p → Takes sheet most es fs →
-      onComponent im sheet most p (cameTo at lines es) ≡ cameTo end lines (put es fs)
+      (p end at lines : ℕ) (es : List Entry) (fs : List Field) → Component im p end fs → Aligned im 0 at p → Takes extent most es fs →
+      onComponent im extent most p (cameTo at lines es) ≡ cameTo end lines (put es fs)
   unfolding onComponent
   component-goes p end at lines es fs c a t =
       let i = A .component-is c in
@@ -164,7 +164,7 @@ module _ (im : List ℕ) (A : Agree im) (sheet most : ℕ) where
   pub record Taken (p at : ℕ) (es : List Entry) : Type 0 where
     pub refusal : componentAt im p .refusal ≡ 0
     pub padding : (at ≡ p → ⊥) → byteAt im at ≡ 0
-    pub takes : Takes sheet most es (heldBy (componentAt im p))
+    pub takes : Takes extent most es (heldBy (componentAt im p))
 
   module _ (p at lines : ℕ) (es : List Entry) where
     abbrev u : State
@@ -176,12 +176,12 @@ module _ (im : List ℕ) (A : Agree im) (sheet most : ℕ) where
     abbrev c : read.Component
     c = componentAt im p
 
-    field-read : padded im at p ≡ true → c .fielded ≡ true → Q (takeField sheet most c u)
+    field-read : padded im at p ≡ true → c .fielded ≡ true → Q (takeField extent most c u)
     unfolding takeField
     field-read d f =
         if-ind Q (most ≤? length es) (λ _ h. is-refused u 7 h)
         (λ k. if-ind Q (c .refusal =? 0)
-        (λ e. if-ind Q (inSheet sheet (entryOf (c .field)))
+        (λ e. if-ind Q (inSheet extent (entryOf (c .field)))
         (λ i. if-ind Q (apartFrom (entryOf (c .field)) es)
         (λ a h. record {
           refusal = eqb-true _ 0 e;
@@ -193,7 +193,7 @@ module _ (im : List ℕ) (A : Agree im) (sheet most : ℕ) where
         (λ e h. code-refused u (c .refusal) e h))
 
     -- a component that the walk takes reads without fault, with its padding and its field
-    pub component-read : fine (onComponent im sheet most p u) ≡ true → Taken p at es
+    pub component-read : fine (onComponent im extent most p u) ≡ true → Taken p at es
     unfolding onComponent takeComponent
     component-read =
         if-ind Q (c .refusal =? 6) (λ _ h. is-refused u 5 h)

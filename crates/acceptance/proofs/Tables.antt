@@ -45,40 +45,40 @@ first-line im A {t = t} x =
 came-by : {s r : State} {lines k : ℕ} {es fs : List Entry} → s ≡ r → lines ≡ k → es ≡ fs → Came r lines es → Came s k fs
 came-by {lines = lines} e l f c = record { end = c .end; is = e ∙ c .is ∙ rw (l, f) }
 
-module _ (im : List ℕ) (A : Agree im) (sheet most : ℕ) where
+module _ (im : List ℕ) (A : Agree im) (extent most : ℕ) where
   module _ (submenu : ℕ → State → State) (Sub : ℕ → List Field → ℕ → Type 0) where
     -- one line, and then the others
     pub walk-on :
-        (n before p : ℕ) (ps : List ℕ) (s : State) (at lines : ℕ) (es : List Entry) → onLine im sheet most submenu n before p s ≡ cameTo at lines es →
-        onLines im sheet most submenu n before (p ∷ ps) s ≡ onLines im sheet most submenu (n + 1) p ps (cameTo at lines es)
+        (n before p : ℕ) (ps : List ℕ) (s : State) (at lines : ℕ) (es : List Entry) → onLine im extent most submenu n before p s ≡ cameTo at lines es →
+        onLines im extent most submenu n before (p ∷ ps) s ≡ onLines im extent most submenu (n + 1) p ps (cameTo at lines es)
     unfolding onLines
-    walk-on n before p ps s at lines es e = then-is (onLines im sheet most submenu (n + 1) p ps) (onLine im sheet most submenu n before p s) at lines es e
+    walk-on n before p ps s at lines es e = then-is (onLines im extent most submenu (n + 1) p ps) (onLine im extent most submenu n before p s) at lines es e
 
-    walk-done : (n before : ℕ) (s : State) → onLines im sheet most submenu n before [] s ≡ s
+    walk-done : (n before : ℕ) (s : State) → onLines im extent most submenu n before [] s ≡ s
     unfolding onLines
     walk-done n before s = refl
 
     -- lines of the grammar are taken
     pub lines-go :
-        SubGoes im A sheet most submenu Sub → {n before p k : ℕ} {fs : List Field} → Lines im Sub n before p fs k →
-        (j at lines : ℕ) (es : List Entry) → n + j ≡ mostLinesOfTable + 1 → Aligned im 1 at p → Takes sheet most es fs → lines + k ≤ mostLines →
-        Came (onLines im sheet most submenu n before (linesFrom im j p) (cameTo at lines es)) (lines + k) (put es fs)
+        SubGoes im A extent most submenu Sub → {n before p k : ℕ} {fs : List Field} → Lines im Sub n before p fs k →
+        (j at lines : ℕ) (es : List Entry) → n + j ≡ mostLinesOfTable + 1 → Aligned im 1 at p → Takes extent most es fs → lines + k ≤ mostLines →
+        Came (onLines im extent most submenu n before (linesFrom im j p) (cameTo at lines es)) (lines + k) (put es fs)
     lines-go go (Lines.last end few x b) zero at lines es e a t l = absurd (omega arith)
     lines-go go {n} {before} {p} {k} {fs} (Lines.last end few x b) (suc j) at lines es e a t l = record {
       end = end;
       is =
-          ap (λ (ps : List ℕ). onLines im sheet most submenu n before ps (cameTo at lines es)) (lines-last im j p (last-marked im A (line-reads im A x) b))
-          ∙ walk-on n before p [] (cameTo at lines es) end (lines + k) (put es fs) (line-goes im A sheet most submenu Sub go x at lines es few a t l)
+          ap (λ (ps : List ℕ). onLines im extent most submenu n before ps (cameTo at lines es)) (lines-last im j p (last-marked im A (line-reads im A x) b))
+          ∙ walk-on n before p [] (cameTo at lines es) end (lines + k) (put es fs) (line-goes im A extent most submenu Sub go x at lines es few a t l)
           ∙ walk-done (n + 1) p (cameTo end (lines + k) (put es fs));
     }
     lines-go go (Lines.more end few x b a′ r) zero at lines es e a t l = absurd (omega arith)
     lines-go go {n} {before} {p} (Lines.more {k = k} {j = i} {fs = fs} {gs = gs} end few x b a′ r) (suc j) at lines es e a t l =
         let h = line-reads im A x in
-        let u = takes-split sheet most fs {gs = gs} t in
+        let u = takes-split extent most fs {gs = gs} t in
         came-by
-        (ap (λ (ps : List ℕ). onLines im sheet most submenu n before ps (cameTo at lines es)) (lines-more im j p (more-marked im A h b) ∙ rw (h .next))
+        (ap (λ (ps : List ℕ). onLines im extent most submenu n before ps (cameTo at lines es)) (lines-more im j p (more-marked im A h b) ∙ rw (h .next))
         ∙ walk-on n before p (linesFrom im j (nextLine im p)) (cameTo at lines es) end (lines + k) (put es fs)
-        (line-goes im A sheet most submenu Sub go x at lines es few a (u .0) (omega arith)))
+        (line-goes im A extent most submenu Sub go x at lines es few a (u .0) (omega arith)))
         (add-assoc lines k i) (put-put es fs gs)
         (lines-go go r j end (lines + k) (put es fs) (omega arith) a′ (u .1) (omega arith))
 
@@ -88,33 +88,33 @@ module _ (im : List ℕ) (A : Agree im) (sheet most : ℕ) where
       pub count : ℕ
       pub aligned : Aligned im 1 at p
       pub rows : Lines im Sub n before p fields count
-      pub takes : Takes sheet most es fields
+      pub takes : Takes extent most es fields
       pub room : lines + count ≤ mostLines
 
     abbrev Reads : ℕ → Type 0
     Reads j =
         (n before p at lines : ℕ) (es : List Entry) → n + j ≡ mostLinesOfTable + 1 → n ≤ mostLinesOfTable →
-        fine (onLines im sheet most submenu n before (linesFrom im j p) (cameTo at lines es)) ≡ true → LinesRead n before p at lines es
+        fine (onLines im extent most submenu n before (linesFrom im j p) (cameTo at lines es)) ≡ true → LinesRead n before p at lines es
 
     -- one turn of it
-    one-read : SubGoes im A sheet most submenu Sub → SubReads im A sheet most submenu Sub → (j : ℕ) → Reads j → Reads (suc j)
+    one-read : SubGoes im A extent most submenu Sub → SubReads im A extent most submenu Sub → (j : ℕ) → Reads j → Reads (suc j)
     unfolding linesFrom onLines
     one-read go reads j rest n before p at lines es e i f = by-test (headAt im p .last) last more
       where
         one : State
-        one = onLine im sheet most submenu n before p (cameTo at lines es)
+        one = onLine im extent most submenu n before p (cameTo at lines es)
 
-        t : Then one (onLines im sheet most submenu (n + 1) p (if headAt im p .last then [] else linesFrom im j (headAt im p .next)) one)
+        t : Then one (onLines im extent most submenu (n + 1) p (if headAt im p .last then [] else linesFrom im j (headAt im p .next)) one)
         t = then-fine one _ f
 
-        x : LineRead im A sheet most submenu Sub n before p at lines es
-        x = line-read im A sheet most submenu Sub reads n before p at lines es (t .before)
+        x : LineRead im A extent most submenu Sub n before p at lines es
+        x = line-read im A extent most submenu Sub reads n before p at lines es (t .before)
 
         h : HeadReads im p
         h = A .head-reads p (x .refusal)
 
         step : one ≡ cameTo (x .end) (lines + x .count) (put es (x .fields))
-        step = line-goes im A sheet most submenu Sub go (x .line) at lines es (x .few) (x .aligned) (x .takes) (x .room)
+        step = line-goes im A extent most submenu Sub go (x .line) at lines es (x .few) (x .aligned) (x .takes) (x .room)
 
         last : headAt im p .last ≡ true → LinesRead n before p at lines es
         last l = record {
@@ -135,46 +135,46 @@ module _ (im : List ℕ) (A : Agree im) (sheet most : ℕ) where
               count = x .count + b .count;
               aligned = x .aligned;
               rows = Lines.more (x .end) (x .few) (x .line) (h .more l) (b .aligned) (b .rows);
-              takes = takes-join sheet most (x .takes) (b .takes);
+              takes = takes-join extent most (x .takes) (b .takes);
               room = omega (arith, b .room);
             }
 
     -- lines that the walk takes are the grammar's
-    pub lines-read : SubGoes im A sheet most submenu Sub → SubReads im A sheet most submenu Sub → (j : ℕ) → Reads j
+    pub lines-read : SubGoes im A extent most submenu Sub → SubReads im A extent most submenu Sub → (j : ℕ) → Reads j
     lines-read go reads zero = λ n before p at lines es e i f. absurd (omega arith)
     lines-read go reads (suc j) = one-read go reads j (lines-read go reads j)
 
   -- ---- tables
 
   -- tables of the grammar are taken
-  pub table-goes : (left : ℕ) → SubGoes im A sheet most (onTable im sheet most left) (Table im left)
+  pub table-goes : (left : ℕ) → SubGoes im A extent most (onTable im extent most left) (Table im left)
   unfolding onTable Table linesOf
   table-goes zero = λ t at lines es fs k x. absurd x
   table-goes (suc left) = λ t at lines es fs k x u l.
       let i = A .title-is (x .title) in
-      let s : onTitle im sheet most t (cameTo at lines es) ≡ cameTo (x .titleEnd) lines es = title-goes im A sheet most t at lines es (i .refusal) ∙ rw (i .ends) in
+      let s : onTitle im extent most t (cameTo at lines es) ≡ cameTo (x .titleEnd) lines es = title-goes im A extent most t at lines es (i .refusal) ∙ rw (i .ends) in
       came-by
-      (then-is (onLines im sheet most (onTable im sheet most left) 0 0 (linesFrom im (mostLinesOfTable + 1) (titleAt im t .line))) _ (x .titleEnd) lines es s ∙ rw (first-line im A x))
+      (then-is (onLines im extent most (onTable im extent most left) 0 0 (linesFrom im (mostLinesOfTable + 1) (titleAt im t .line))) _ (x .titleEnd) lines es s ∙ rw (first-line im A x))
       refl refl
-      (lines-go (onTable im sheet most left) (Table im left) (table-goes left) (x .lines) (mostLinesOfTable + 1) (x .titleEnd) lines es refl (x .aligned) u l)
+      (lines-go (onTable im extent most left) (Table im left) (table-goes left) (x .lines) (mostLinesOfTable + 1) (x .titleEnd) lines es refl (x .aligned) u l)
 
   -- R15: no table is taken where no level is left
-  too-deep : {A : Type 0} (t : ℕ) (s : State) → fine (onTable im sheet most 0 t s) ≡ true → A
+  too-deep : {A : Type 0} (t : ℕ) (s : State) → fine (onTable im extent most 0 t s) ≡ true → A
   unfolding onTable
-  too-deep t s f = is-refused (onTitle im sheet most t s) 7 (then-fine _ _ f .after)
+  too-deep t s f = is-refused (onTitle im extent most t s) 7 (then-fine _ _ f .after)
 
   -- tables that the walk takes are the grammar's
-  pub table-read : (left : ℕ) → SubReads im A sheet most (onTable im sheet most left) (Table im left)
+  pub table-read : (left : ℕ) → SubReads im A extent most (onTable im extent most left) (Table im left)
   unfolding onTable Table linesOf
   table-read zero = λ t at lines es f. too-deep t _ f
   table-read (suc left) = λ t at lines es f.
       let w = then-fine _ _ f in
-      let z = title-read im A sheet most t (cameTo at lines es) (w .before) in
+      let z = title-read im A extent most t (cameTo at lines es) (w .before) in
       let r = A .title-reads t z in
       let end = titleAt im t .end in
       let b =
-      lines-read (onTable im sheet most left) (Table im left) (table-goes left) (table-read left) (mostLinesOfTable + 1) 0 0 (titleAt im t .line) end lines es refl (omega arith)
-      (rw (title-goes im A sheet most t at lines es z) at (w .after)) in
+      lines-read (onTable im extent most left) (Table im left) (table-goes left) (table-read left) (mostLinesOfTable + 1) 0 0 (titleAt im t .line) end lines es refl (omega arith)
+      (rw (title-goes im A extent most t at lines es z) at (w .after)) in
       record {
         fields = b .fields;
         count = b .count;

@@ -22,13 +22,13 @@ one e = e ∷ []
 
 -- ---- taking
 
-module _ (sheet most : ℕ) where
+module _ (extent most : ℕ) where
   -- with the entries es before them, fs are taken
   pub data Takes : List Entry → List Field → Type 0 where
     none : {es : List Entry} → Takes es []
     add :
         {es : List Entry} {f : Field} {fs : List Field} →
-        length es < most → inSheet sheet (entryOf f) ≡ true → apartFrom (entryOf f) es ≡ true → Takes (put es (f ∷ [])) fs →
+        length es < most → inSheet extent (entryOf f) ≡ true → apartFrom (entryOf f) es ≡ true → Takes (put es (f ∷ [])) fs →
         Takes es (f ∷ fs)
 
   -- a list is taken where its two parts are
@@ -66,15 +66,15 @@ le-room : (len at n : ℕ) → at + n ≤ len → room len at n ≡ true
 unfolding room
 le-room len at n h = if-le at len _ _ (omega arith) ∙ le-leb n (len - at) (omega arith)
 
-pub sheet-is : (sheet : ℕ) (f : Field) → InSheet sheet f → inSheet sheet (entryOf f) ≡ true
+pub sheet-is : (extent : ℕ) (f : Field) → InSheet extent f → inSheet extent (entryOf f) ≡ true
 unfolding inSheet
-sheet-is sheet f i = and-i (le-leb sheet longestSheet (i .short)) (le-room sheet (f .sheet .0) (sizeOf f) (i .inside))
+sheet-is extent f i = and-i (le-leb extent longestSheet (i .short)) (le-room extent (f .sheet .0) (sizeOf f) (i .inside))
 
-pub sheet-reads : (sheet : ℕ) (f : Field) → inSheet sheet (entryOf f) ≡ true → InSheet sheet f
+pub sheet-reads : (extent : ℕ) (f : Field) → inSheet extent (entryOf f) ≡ true → InSheet extent f
 unfolding inSheet
-sheet-reads sheet f e = record {
-  short = leb-true sheet longestSheet (and-l _ _ e);
-  inside = room-le sheet (f .sheet .0) (sizeOf f) (and-r _ _ e);
+sheet-reads extent f e = record {
+  short = leb-true extent longestSheet (and-l _ _ e);
+  inside = room-le extent (f .sheet .0) (sizeOf f) (and-r _ _ e);
 }
 
 -- fields that have bytes and share none: one begins after the other's end
@@ -138,33 +138,33 @@ beside-none (f ∷ fs) = Every.add refl (beside-none fs)
 
 -- ---- the limits
 
-module _ (sheet most : ℕ) where
+module _ (extent most : ℕ) where
   -- 01's limits on fields that have the entries es before them
   pub record Fits (es : List Entry) (fs : List Field) : Type 0 where
     pub few : length es + length fs ≤ most
-    pub inside : Every (InSheet sheet) fs
+    pub inside : Every (InSheet extent) fs
     pub beside : Every (λ (f : Field). apartFrom (entryOf f) es ≡ true) fs
     pub apart : Apart fs
 
   -- what keeps the limits is taken
   pub fits-takes :
-      (es : List Entry) {fs : List Field} → length es + length fs ≤ most → Every (InSheet sheet) fs → Every (λ (f : Field). apartFrom (entryOf f) es ≡ true) fs → Apart fs →
-      Takes sheet most es fs
+      (es : List Entry) {fs : List Field} → length es + length fs ≤ most → Every (InSheet extent) fs → Every (λ (f : Field). apartFrom (entryOf f) es ≡ true) fs → Apart fs →
+      Takes extent most es fs
   fits-takes es h Every.none Every.none Apart.none = Takes.none
   fits-takes es h (Every.add {f = f} i is) (Every.add b bs) (Apart.add d ds) =
-      Takes.add {es = es} (omega arith) (sheet-is sheet f i) b
+      Takes.add {es = es} (omega arith) (sheet-is extent f i) b
       (fits-takes (put es (f ∷ [])) (omega (arith, length-append es (one (entryOf f)))) is
       (every-zip (λ g k l. from-add (entryOf g) (entryOf f) es k (apart-is f g l)) bs d) ds)
 
   -- what is taken keeps the limits
-  pub takes-fits : {es : List Entry} {fs : List Field} → length es ≤ most → Takes sheet most es fs → Fits es fs
+  pub takes-fits : {es : List Entry} {fs : List Field} → length es ≤ most → Takes extent most es fs → Fits es fs
   takes-fits h Takes.none = record { few = omega arith; inside = Every.none; beside = Every.none; apart = Apart.none }
   takes-fits {es} h (Takes.add {f = f} {fs = fs} a b c t) =
       let n = length-append es (one (entryOf f)) in
       let l = takes-fits (omega (arith, n)) t in
       record {
         few = omega (arith, n, l .few);
-        inside = Every.add (sheet-reads sheet f b) (l .inside);
+        inside = Every.add (sheet-reads extent f b) (l .inside);
         beside = Every.add c (every-map (λ g k. from-front (entryOf g) (entryOf f) es k) (l .beside));
         apart = Apart.add (every-map (λ g k. apart-reads f g (from-last (entryOf g) (entryOf f) es k)) (l .beside)) (l .apart);
       }

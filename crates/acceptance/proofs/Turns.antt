@@ -51,8 +51,8 @@ module _ (im : List ℕ) where
     components-enough c k l = turns-more (length im + 1) k c l (omega arith) (omega arith)
 
   -- for the walk, which stops at a refusal, that follows from what is known of components without fault
-  module _ (A : Agree im) (sheet most : ℕ) where
-    part-code : (c : ℕ) (s : State) → fine (onComponent im sheet most c s) ≡ true → componentAt im c .refusal ≡ 0
+  module _ (A : Agree im) (extent most : ℕ) where
+    part-code : (c : ℕ) (s : State) → fine (onComponent im extent most c s) ≡ true → componentAt im c .refusal ≡ 0
     unfolding onComponent takeComponent takeField
     part-code c s =
         if-ind P (x .refusal =? 6) (λ _ h. is-refused s 5 h)
@@ -71,14 +71,14 @@ module _ (im : List ℕ) where
 
     same-parts :
         (c : ℕ) (cs ds : List ℕ) (s : State) →
-        (componentAt im c .refusal ≡ 0 → (r : State) → onComponents im sheet most cs r ≡ onComponents im sheet most ds r) →
-        onComponents im sheet most (c ∷ cs) s ≡ onComponents im sheet most (c ∷ ds) s
+        (componentAt im c .refusal ≡ 0 → (r : State) → onComponents im extent most cs r ≡ onComponents im extent most ds r) →
+        onComponents im extent most (c ∷ cs) s ≡ onComponents im extent most (c ∷ ds) s
     unfolding onComponents
     same-parts c cs ds s h = then-same _ _ _ (λ f. h (part-code c s f) _)
 
     more-parts :
         (k j c : ℕ) (s : State) → k ≤ j → 0 < k → length im < k + c →
-        onComponents im sheet most (componentsFrom im j c) s ≡ onComponents im sheet most (componentsFrom im k c) s
+        onComponents im extent most (componentsFrom im j c) s ≡ onComponents im extent most (componentsFrom im k c) s
     more-parts zero j c s l z h = absurd (omega arith)
     more-parts (suc k) zero c s l z h = absurd (omega arith)
     more-parts (suc k) (suc j) c s l z h =
@@ -92,14 +92,14 @@ module _ (im : List ℕ) where
     -- the walk over a line's components comes to the same state
     pub parts-enough :
         (c k : ℕ) (s : State) → length im + 1 ≤ k →
-        onComponents im sheet most (componentsFrom im k c) s ≡ onComponents im sheet most (componentsFrom im (length im + 1) c) s
+        onComponents im extent most (componentsFrom im k c) s ≡ onComponents im extent most (componentsFrom im (length im + 1) c) s
     parts-enough c k s l = more-parts (length im + 1) k c s l (omega arith) (omega arith)
 
   -- ---- lines
 
-  module _ (sheet most : ℕ) (submenu : ℕ → State → State) where
+  module _ (extent most : ℕ) (submenu : ℕ → State → State) where
     -- a line that is not refused is one of the first 99
-    head-few : (n before p : ℕ) (s : State) → fine (onHead im sheet most n before p s) ≡ true → n < mostLinesOfTable
+    head-few : (n before p : ℕ) (s : State) → fine (onHead im extent most n before p s) ≡ true → n < mostLinesOfTable
     unfolding onHead takeLine countLine
     head-few n before p s =
         if-ind P (headAt im p .refusal =? 0)
@@ -112,20 +112,20 @@ module _ (im : List ℕ) where
         P : Progress → Type 0
         P w = fine (with s w) ≡ true → n < mostLinesOfTable
 
-    line-few : (n before p : ℕ) (s : State) → fine (onLine im sheet most submenu n before p s) ≡ true → n < mostLinesOfTable
+    line-few : (n before p : ℕ) (s : State) → fine (onLine im extent most submenu n before p s) ≡ true → n < mostLinesOfTable
     unfolding onLine
     line-few n before p s f = head-few n before p s (then-fine _ _ f .before)
 
     same-rest :
         (n before p : ℕ) (ps qs : List ℕ) (s : State) →
-        (n < mostLinesOfTable → (r : State) → onLines im sheet most submenu (n + 1) p ps r ≡ onLines im sheet most submenu (n + 1) p qs r) →
-        onLines im sheet most submenu n before (p ∷ ps) s ≡ onLines im sheet most submenu n before (p ∷ qs) s
+        (n < mostLinesOfTable → (r : State) → onLines im extent most submenu (n + 1) p ps r ≡ onLines im extent most submenu (n + 1) p qs r) →
+        onLines im extent most submenu n before (p ∷ ps) s ≡ onLines im extent most submenu n before (p ∷ qs) s
     unfolding onLines
     same-rest n before p ps qs s h = then-same _ _ _ (λ f. h (line-few n before p s f) _)
 
     more-lines :
         (k j n before p : ℕ) (s : State) → k ≤ j → mostLinesOfTable < n + k → n ≤ mostLinesOfTable →
-        onLines im sheet most submenu n before (linesFrom im j p) s ≡ onLines im sheet most submenu n before (linesFrom im k p) s
+        onLines im extent most submenu n before (linesFrom im j p) s ≡ onLines im extent most submenu n before (linesFrom im k p) s
     more-lines zero j n before p s l h m = absurd (omega arith)
     more-lines (suc k) zero n before p s l h m = absurd (omega arith)
     more-lines (suc k) (suc j) n before p s l h m =
@@ -136,5 +136,5 @@ module _ (im : List ℕ) where
     -- 100 turns are enough for a table's lines
     pub lines-enough :
         (k before p : ℕ) (s : State) → mostLinesOfTable + 1 ≤ k →
-        onLines im sheet most submenu 0 before (linesFrom im k p) s ≡ onLines im sheet most submenu 0 before (linesFrom im (mostLinesOfTable + 1) p) s
+        onLines im extent most submenu 0 before (linesFrom im k p) s ≡ onLines im extent most submenu 0 before (linesFrom im (mostLinesOfTable + 1) p) s
     lines-enough k before p s l = more-lines (mostLinesOfTable + 1) k 0 before p s l (omega arith) (omega arith)

@@ -100,7 +100,7 @@ entryOf f = record { place = f .image; from = f .sheet; size = sizeOf f }
 
 -- 01, row 10: the sheet is not too long, and the field's bytes lie in it
 unfoldable pub inSheet : ℕ → Entry → Bool
-inSheet sheet e = (sheet ≤? longestSheet) and room sheet (e .from .0) (e .size)
+inSheet extent e = (extent ≤? longestSheet) and room extent (e .from .0) (e .size)
 
 -- 01, row 11: two fields share no byte if either has none or one ends where the other begins or before
 unfoldable pub apart : Entry → Entry → Bool
@@ -118,10 +118,10 @@ apartFrom e (f ∷ fs) = apart e f and apartFrom e fs
 -- a field: 8 if there are as many as there may be (`most`: the code's array has room for no more), 9 for bad
 -- settings, 10 and 11 for its bytes in the sheet
 unfoldable pub takeField : ℕ → ℕ → Component → State → State
-takeField sheet most c s =
+takeField extent most c s =
     if most ≤? s .progress .fields then with s (refused (s .progress) 8)
     else if c .refusal =? 0 then
-    (if inSheet sheet (entryOf (c .field)) then
+    (if inSheet extent (entryOf (c .field)) then
     (if apartFrom (entryOf (c .field)) (s .fields) then
     state (record { refusal = 0; at = c .end; lines = s .progress .lines; fields = s .progress .fields + 1 })
     (s .fields ++ (entryOf (c .field) ∷ []))
@@ -131,19 +131,19 @@ takeField sheet most c s =
 
 -- a component at a place: 6 first, then 7 for the padding before it
 unfoldable pub takeComponent : List ℕ → ℕ → ℕ → ℕ → Component → State → State
-takeComponent im sheet most p c s =
+takeComponent im extent most p c s =
     if c .refusal =? 6 then with s (refused (s .progress) 6)
     else if padded im (s .progress .at) p then
-    (if c .fielded then takeField sheet most c s
+    (if c .fielded then takeField extent most c s
     else if c .refusal =? 0 then with s (readTo (s .progress) (c .end))
     else with s (refused (s .progress) (c .refusal)))
     else with s (refused (s .progress) 7)
 
 -- ---- the walk
 
-module _ (im : List ℕ) (sheet most : ℕ) where
+module _ (im : List ℕ) (extent most : ℕ) where
   unfoldable pub onComponent : ℕ → State → State
-  onComponent c s = takeComponent im sheet most c (componentAt im c) s
+  onComponent c s = takeComponent im extent most c (componentAt im c) s
 
   unfoldable pub onComponents : List ℕ → State → State
   onComponents [] s = s
@@ -184,7 +184,7 @@ start = state (record { refusal = 0; at = 0; lines = 0; fields = 0 }) []
 
 -- the walk from the top table on
 unfoldable pub walked : List ℕ → ℕ → State
-walked im sheet = onTable im sheet mostFields deepestTable prologBytes start
+walked im extent = onTable im extent mostFields deepestTable prologBytes start
 
 -- 01, rows 2 to 5: the prolog
 unfoldable pub prologCode : List ℕ → ℕ
@@ -199,9 +199,9 @@ prologCode im =
 
 -- the refusal number of an image for a sheet of so many bytes, 0 for none, with the fields that were taken
 unfoldable pub checked : List ℕ → ℕ → State
-checked im sheet =
-    if prologCode im =? 0 then walked im sheet
+checked im extent =
+    if prologCode im =? 0 then walked im extent
     else with start (refused (start .progress) (prologCode im))
 
 unfoldable pub refusalOf : List ℕ → ℕ → ℕ
-refusalOf im sheet = checked im sheet .progress .refusal
+refusalOf im extent = checked im extent .progress .refusal

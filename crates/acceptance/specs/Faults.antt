@@ -83,27 +83,28 @@ pub data HeadFault (im : List ℕ) (lines n before at p : ℕ) : ℕ → Type 0 
   password : hasPassword im p ≡ 1 → (Digits im (passwordAt im p) → ⊥) → HeadFault im lines n before at p 9
 
 -- a component, with the fields fs before it in the walk; rows 8 to 11 concern fields alone
-pub data ComponentFault (im : List ℕ) (sheet : ℕ) (fs : List Field) (at p : ℕ) : ℕ → Type 0 where
+pub data ComponentFault (im : List ℕ) (extent : ℕ) (fs : List Field) (at p : ℕ) : ℕ → Type 0 where
   -- row 6 (a padding byte beyond the image has its tag beyond it too)
-  cut : ComponentCut im p → ComponentFault im sheet fs at p 6
+  cut : ComponentCut im p → ComponentFault im extent fs at p 6
   -- row 7: R14, R16; R6, the byte skipped is not zero
-  wrong : ComponentWrong im p → ComponentFault im sheet fs at p 7
-  padding : at < p → (byteAt im at ≡ 0 → ⊥) → ComponentFault im sheet fs at p 7
+  wrong : ComponentWrong im p → ComponentFault im extent fs at p 7
+  padding : at < p → (byteAt im at ≡ 0 → ⊥) → ComponentFault im extent fs at p 7
   -- row 8: the 257th field
-  many : {f : Field} → FieldIs im p f → mostFields ≤ length fs → ComponentFault im sheet fs at p 8
+  many : {f : Field} → FieldIs im p f → mostFields ≤ length fs → ComponentFault im extent fs at p 8
   -- row 9, R19: bad settings
-  settings : {f : Field} → FieldIs im p f → (GoodSettings f → ⊥) → ComponentFault im sheet fs at p 9
+  settings : {f : Field} → FieldIs im p f → (GoodSettings f → ⊥) → ComponentFault im extent fs at p 9
   -- row 10, R18: the sheet is too long, or the field's bytes run past its end
-  long : {f : Field} → FieldIs im p f → longestSheet < sheet → ComponentFault im sheet fs at p 10
-  outside : {f : Field} → FieldIs im p f → sheet < f .sheet .0 + sizeOf f → ComponentFault im sheet fs at p 10
+  long : {f : Field} → FieldIs im p f → longestSheet < extent → ComponentFault im extent fs at p 10
+  outside : {f : Field} → FieldIs im p f → extent < f .sheet .0 + sizeOf f
+      → ComponentFault im extent fs at p 10
   -- row 11
-  shared : {f : Field} → FieldIs im p f → Shares f fs → ComponentFault im sheet fs at p 11
+  shared : {f : Field} → FieldIs im p f → Shares f fs → ComponentFault im extent fs at p 11
 
 -- 01's table: a number applies to a structure that has these fields and so many lines before it
 unfoldable pub Applies : List ℕ → ℕ → List Field → ℕ → Structure → ℕ → Type 0
-Applies im sheet fs lines (title left t) k = TitleFault im left t k
-Applies im sheet fs lines (head n before at p) k = HeadFault im lines n before at p k
-Applies im sheet fs lines (component at p) k = ComponentFault im sheet fs at p k
+Applies im extent fs lines (title left t) k = TitleFault im left t k
+Applies im extent fs lines (head n before at p) k = HeadFault im lines n before at p k
+Applies im extent fs lines (component at p) k = ComponentFault im extent fs at p k
 
 -- ---- 01: the order of the walk: depth first, lines in order, a line's components before its submenu
 
@@ -168,18 +169,18 @@ InTable im (suc left) t x fs k = InTableOver im (Table im left) (InTable im left
 -- ---- 01: the first structure at fault decides, and at one structure the lowest number
 
 -- the lines and fields before a structure keep the limits that a well-formed image keeps
-pub record Kept (sheet lines : ℕ) (fs : List Field) : Type 0 where
+pub record Kept (extent lines : ℕ) (fs : List Field) : Type 0 where
   pub few-lines : lines ≤ mostLines
   pub few-fields : length fs ≤ mostFields
-  pub inside : Every (InSheet sheet) fs
+  pub inside : Every (InSheet extent) fs
   pub apart : Apart fs
 
 -- an image is refused with k: its prolog is, or the prolog is good and some structure, after structures that
 -- are all without fault, is at fault
-pub data Refused (im : List ℕ) (sheet : ℕ) : ℕ → Type 0 where
-  prolog : {k : ℕ} → Lowest (PrologFault im) k → Refused im sheet k
+pub data Refused (im : List ℕ) (extent : ℕ) : ℕ → Type 0 where
+  prolog : {k : ℕ} → Lowest (PrologFault im) k → Refused im extent k
   progress :
       {k : ℕ} (x : Structure) (fs : List Field) (lines : ℕ) →
-      Prolog im → InTable im deepestTable prologBytes x fs lines → Kept sheet lines fs
-      → Lowest (Applies im sheet fs lines x) k →
-      Refused im sheet k
+      Prolog im → InTable im deepestTable prologBytes x fs lines → Kept extent lines fs
+      → Lowest (Applies im extent fs lines x) k →
+      Refused im extent k

@@ -32,12 +32,12 @@ impl Entry {
     }
 
     // Whether its bytes lie in a sheet that is not too long.
-    pub fn in_sheet(self, sheet: usize) -> bool
-        ensures { λ r. ⌜ r ≡ inSheet sheet self ⌝ }
+    pub fn in_sheet(self, extent: usize) -> bool
+        ensures { λ r. ⌜ r ≡ inSheet extent self ⌝ }
     {
-        if sheet <= Image::MAX_SHEET {
-            if self.from.0 <= sheet {
-                return self.size <= sheet - self.from.0;
+        if extent <= Image::MAX_SHEET {
+            if self.from.0 <= extent {
+                return self.size <= extent - self.from.0;
             }
             return false;
         }

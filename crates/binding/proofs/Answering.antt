@@ -102,8 +102,8 @@ plain-step im sheet s e (mode.Password k) = plain-entry im s k e
 
 -- ---- an accepted image is short, and the visited component is in it
 
-pub short : (im : List ℕ) (sheet : ℕ) → refusalOf im sheet ≡ 0 → length im ≤ 32768
-short im sheet h = accepted-exactly-when-well-formed im sheet .0 h .prolog .most
+pub short : (im : List ℕ) (extent : ℕ) → refusalOf im extent ≡ 0 → length im ≤ 32768
+short im extent h = accepted-exactly-when-well-formed im extent .0 h .prolog .most
 
 holds-inside : (im : List ℕ) (p : ℕ) → componentAt im p .fielded ≡ true → p < length im
 unfolding componentAt
@@ -137,9 +137,9 @@ cursor-below im s mode.Browsing h k l = omega arith
 cursor-below im s (mode.Visit p) h k l = omega arith
 cursor-below im s (mode.Password n) h k l = omega arith
 
-pub cursor-plain : (im : List ℕ) (sheet : ℕ) (s : Session) → Granted im sheet s → cursorNumber (cursorIn im s (s .mode)) < 131072
+pub cursor-plain : (im : List ℕ) (extent : ℕ) (s : Session) → Granted im extent s → cursorNumber (cursorIn im s (s .mode)) < 131072
 unfolding sessionFits shapeFits tablesFit
-cursor-plain im sheet s g =
+cursor-plain im extent s g =
     let shape = and-l _ _ (g .fits) in
     let tables = and-l _ _ (and-r _ _ (g .fits)) in
     cursor-below im s (s .mode)

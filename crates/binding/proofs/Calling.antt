@@ -38,52 +38,52 @@ before-none : (a : ℕ) → a before 0 ≡ a
 unfolding _before_
 before-none a = if-ind (λ (k : ℕ). k ≡ a) (a =? 0) (λ e. sym (eqb-true a 0 e)) (λ _. refl)
 
-module _ (im : List ℕ) (sheet columns lines : ℕ) where
+module _ (im : List ℕ) (extent columns lines : ℕ) where
   -- a buffer of another length: 1 first
-  pub unsized-shape : shapeFits columns lines ≡ false → 1 ≡ openRefusal im sheet columns lines before 12
+  pub unsized-shape : shapeFits columns lines ≡ false → 1 ≡ openRefusal im extent columns lines before 12
   unfolding openRefusal
   unsized-shape h =
-      sym (rw (failing 1 (shapeFits columns lines) h, first-given 1 (refusalOf im sheet) (λ z. omega arith)) (first-given 1 12 (λ z. omega arith)))
+      sym (rw (failing 1 (shapeFits columns lines) h, first-given 1 (refusalOf im extent) (λ z. omega arith)) (first-given 1 12 (λ z. omega arith)))
 
   -- then 2 to 11, then 12: the closed session never fits
-  pub unsized-image : (k : ℕ) → shapeFits columns lines ≡ true → k ≡ sessionRefusal im sheet closed → k ≡ openRefusal im sheet columns lines before 12
+  pub unsized-image : (k : ℕ) → shapeFits columns lines ≡ true → k ≡ sessionRefusal im extent closed → k ≡ openRefusal im extent columns lines before 12
   unfolding openRefusal sessionRefusal
   unsized-image k h e =
       let f : 12 unless sessionFits im closed ≡ 12 = failing 12 _ (closed-never-fits im) in
-      e ∙ rw (f, holding 1 (shapeFits columns lines) h, next-given 0 (refusalOf im sheet) refl)
+      e ∙ rw (f, holding 1 (shapeFits columns lines) h, next-given 0 (refusalOf im extent) refl)
 
-  pub open-unsized : (n k : ℕ) → (n ≡ 230 → ⊥) → k ≡ openRefusal im sheet columns lines before 12 → 16777216 + k ≡ openNumber im sheet columns lines n
+  pub open-unsized : (n k : ℕ) → (n ≡ 230 → ⊥) → k ≡ openRefusal im extent columns lines before 12 → 16777216 + k ≡ openNumber im extent columns lines n
   unfolding openNumber refusedBy
   open-unsized n k h e =
       let f : 12 unless (n =? 230) ≡ 12 = failing 12 _ (ne-eqb n 230 h) in
-      let z : k ≡ 0 → ⊥ = λ z. omega (arith, none-before (openRefusal im sheet columns lines) 12 (sym e ∙ z) .1) in
+      let z : k ≡ 0 → ⊥ = λ z. omega (arith, none-before (openRefusal im extent columns lines) 12 (sym e ∙ z) .1) in
       sym (rw (f, ← e) (if-ne k 0 _ _ z))
 
-  pub open-sized : (n k r : ℕ) → n ≡ 230 → k ≡ openRefusal im sheet columns lines → r ≡ refusedBy k → r ≡ openNumber im sheet columns lines n
+  pub open-sized : (n k r : ℕ) → n ≡ 230 → k ≡ openRefusal im extent columns lines → r ≡ refusedBy k → r ≡ openNumber im extent columns lines n
   unfolding openNumber
   open-sized n k r h e f =
       let g : 12 unless (n =? 230) ≡ 0 = holding 12 _ (eq-eqb n 230 h) in
-      f ∙ rw (g, before-none (openRefusal im sheet columns lines), e)
+      f ∙ rw (g, before-none (openRefusal im extent columns lines), e)
 
-  pub refusal-of : (o : Opened) → o ≡ openAnswer im sheet columns lines → o .refusal ≡ openRefusal im sheet columns lines
+  pub refusal-of : (o : Opened) → o ≡ openAnswer im extent columns lines → o .refusal ≡ openRefusal im extent columns lines
   unfolding openAnswer
   refusal-of o e = ap (λ (x : Opened). x .refusal) e
 
-  pub bytes-kept : (bs : List ℕ) → (length bs ≡ 230 → ⊥) → bs ≡ openedBytes im sheet columns lines bs
+  pub bytes-kept : (bs : List ℕ) → (length bs ≡ 230 → ⊥) → bs ≡ openedBytes im extent columns lines bs
   unfolding openedBytes sessionWritten
   bytes-kept bs h = sym (if-ne _ 230 _ _ h)
 
-  pub bytes-opened : (bs t : List ℕ) (o : Opened) → o ≡ openAnswer im sheet columns lines → t ≡ sessionWritten (o .session) bs
-      → t ≡ openedBytes im sheet columns lines bs
+  pub bytes-opened : (bs t : List ℕ) (o : Opened) → o ≡ openAnswer im extent columns lines → t ≡ sessionWritten (o .session) bs
+      → t ≡ openedBytes im extent columns lines bs
   unfolding openedBytes
   bytes-opened bs t o e f = f ∙ ap (λ (x : Opened). sessionWritten (x .session) bs) e
 
-  pub session-closed : (bs : List ℕ) → (length bs ≡ 230 → ⊥) → sessionFrom bs ≡ openedSession im sheet columns lines (length bs)
+  pub session-closed : (bs : List ℕ) → (length bs ≡ 230 → ⊥) → sessionFrom bs ≡ openedSession im extent columns lines (length bs)
   unfolding sessionFrom openedSession
   session-closed bs h = if-ne _ 230 _ _ h ∙ sym (if-ne _ 230 _ _ h)
 
-  pub session-opened : (bs t : List ℕ) (o : Opened) → length bs ≡ 230 → o ≡ openAnswer im sheet columns lines → t ≡ sessionWritten (o .session) bs
-      → sessionFrom (sessionBytes (o .session)) ≡ o .session → sessionFrom t ≡ openedSession im sheet columns lines (length bs)
+  pub session-opened : (bs t : List ℕ) (o : Opened) → length bs ≡ 230 → o ≡ openAnswer im extent columns lines → t ≡ sessionWritten (o .session) bs
+      → sessionFrom (sessionBytes (o .session)) ≡ o .session → sessionFrom t ≡ openedSession im extent columns lines (length bs)
   unfolding openedSession
   session-opened bs t o h e f b =
       ap (λ (l : List ℕ). sessionFrom l) (written (o .session) bs t h f) ∙ b ∙ ap (λ (x : Opened). x .session) e ∙ sym (if-eq _ 230 _ _ h)
@@ -100,9 +100,9 @@ module _ (im sheet : List ℕ) (columns lines n : ℕ) where
 -- ---- Event
 
 -- a buffer of another length is a session that never fits
-sized : (im bs : List ℕ) (sheet : ℕ) → Granted im sheet (sessionFrom bs) → length bs ≡ 230
+sized : (im bs : List ℕ) (extent : ℕ) → Granted im extent (sessionFrom bs) → length bs ≡ 230
 unfolding sessionFrom
-sized im bs sheet g = go (ℕ-discrete (length bs) 230)
+sized im bs extent g = go (ℕ-discrete (length bs) 230)
   where
     go : Dec (length bs ≡ 230) → length bs ≡ 230
     go (yes z) = z
@@ -178,52 +178,52 @@ module _ (im sheet bs : List ℕ) (e : ℕ) {s : Session} (p : s ≡ sessionFrom
 
 -- ---- Draw
 
-module _ (im bs : List ℕ) (sheet n k : ℕ) (q : k ≡ drawRefusal im sheet (sessionFrom bs) n) where
-  pub draw-refused : (r : ℕ) → (k ≡ 0 → ⊥) → r ≡ refusedBy k → r ≡ drawNumber im sheet bs n
+module _ (im bs : List ℕ) (extent n k : ℕ) (q : k ≡ drawRefusal im extent (sessionFrom bs) n) where
+  pub draw-refused : (r : ℕ) → (k ≡ 0 → ⊥) → r ≡ refusedBy k → r ≡ drawNumber im extent bs n
   unfolding drawNumber
   draw-refused r h f = f ∙ sym (rw (← q) (if-ne k 0 _ _ h))
 
-  pub draw-given : (r : ℕ) (c : List ℕ) → k ≡ 0 → r ≡ cursorNumber c → c ≡ drawCursor im sheet (sessionFrom bs) n → r ≡ drawNumber im sheet bs n
+  pub draw-given : (r : ℕ) (c : List ℕ) → k ≡ 0 → r ≡ cursorNumber c → c ≡ drawCursor im extent (sessionFrom bs) n → r ≡ drawNumber im extent bs n
   unfolding drawNumber
   draw-given r c z f g = f ∙ rw g (sym (rw (← q) (if-eq k 0 _ _ z)))
 
-  pub cursor-fits : (c : List ℕ) → k ≡ 0 → c ≡ drawCursor im sheet (sessionFrom bs) n → cursorNumber c < 131072
+  pub cursor-fits : (c : List ℕ) → k ≡ 0 → c ≡ drawCursor im extent (sessionFrom bs) n → cursorNumber c < 131072
   unfolding drawCursor drawRefusal
   cursor-fits c z g =
       rw (g, if-eq _ 0 _ _ (sym q ∙ z))
-      (cursor-plain im sheet (sessionFrom bs) (session-granted im sheet (sessionFrom bs) (none-before _ _ (sym q ∙ z) .0)))
+      (cursor-plain im extent (sessionFrom bs) (session-granted im extent (sessionFrom bs) (none-before _ _ (sym q ∙ z) .0)))
 
 -- ---- Option text
 
-text-accepted : (im : List ℕ) (sheet place item : ℕ) → textRefusal im sheet place item ≡ 0 → refusalOf im sheet ≡ 0
+text-accepted : (im : List ℕ) (extent place item : ℕ) → textRefusal im extent place item ≡ 0 → refusalOf im extent ≡ 0
 unfolding textRefusal
-text-accepted im sheet place item h = none-before _ _ h .0
+text-accepted im extent place item h = none-before _ _ h .0
 
-module _ (im : List ℕ) (sheet place item : ℕ) {t : TextPlace} (e : t ≡ textPlace im sheet place item) where
-  refusal-is : t .refusal ≡ textRefusal im sheet place item
-  refusal-is = shown-refusal im sheet place item e
+module _ (im : List ℕ) (extent place item : ℕ) {t : TextPlace} (e : t ≡ textPlace im extent place item) where
+  refusal-is : t .refusal ≡ textRefusal im extent place item
+  refusal-is = shown-refusal im extent place item e
 
   -- all of a text that is given is in the image, which is short
   pub text-near : t .refusal ≡ 0 → t .start .0 + t .length ≤ 32768
   text-near z =
-      let s : length im ≤ 32768 = short im sheet (text-accepted im sheet place item (sym refusal-is ∙ z)) in
-      omega (arith, shown-inside im sheet place item e)
+      let s : length im ≤ 32768 = short im extent (text-accepted im extent place item (sym refusal-is ∙ z)) in
+      omega (arith, shown-inside im extent place item e)
 
-  pub text-refused : (t .refusal ≡ 0 → ⊥) → 4294967296 + t .refusal ≡ textNumber im sheet place item
+  pub text-refused : (t .refusal ≡ 0 → ⊥) → 4294967296 + t .refusal ≡ textNumber im extent place item
   unfolding textNumber
   text-refused h = sym (rw (← refusal-is) (if-ne (t .refusal) 0 _ _ h))
 
-  pub text-given : t .refusal ≡ 0 → 65536 * t .start .0 + t .length ≡ textNumber im sheet place item
+  pub text-given : t .refusal ≡ 0 → 65536 * t .start .0 + t .length ≡ textNumber im extent place item
   unfolding textNumber
   text-given z = rw e (sym (if-eq _ 0 _ _ (sym refusal-is ∙ z)))
 
 -- ---- what a call ensures of a session that was taken from bytes
 
-module _ (im : List ℕ) (sheet n : ℕ) where
-  pub refusal-from : {s : Session} (k : ℕ) (u : Session) → s ≡ u → k ≡ drawRefusal im sheet s n → k ≡ drawRefusal im sheet u n
+module _ (im : List ℕ) (extent n : ℕ) where
+  pub refusal-from : {s : Session} (k : ℕ) (u : Session) → s ≡ u → k ≡ drawRefusal im extent s n → k ≡ drawRefusal im extent u n
   refusal-from k u q h = rw q at h
 
-  pub cursor-from : {s : Session} (c : List ℕ) (u : Session) → s ≡ u → c ≡ drawCursor im sheet s n → c ≡ drawCursor im sheet u n
+  pub cursor-from : {s : Session} (c : List ℕ) (u : Session) → s ≡ u → c ≡ drawCursor im extent s n → c ≡ drawCursor im extent u n
   cursor-from c u q h = rw q at h
 
 pub picture-from : (im sheet picture : List ℕ) {s : Session} (t : List ℕ) (u : Session) → s ≡ u → t ≡ drawnPicture im sheet s picture → t ≡ drawnPicture im sheet u picture

@@ -16,21 +16,21 @@ use Rattle.binding.specs.Answers.{refusedBy, cursorNumber}
 -- ---- Open, with a session buffer of n bytes: a buffer of another length is refused with 12, after all else, and nothing is altered
 
 unfoldable pub openNumber : List ℕ → ℕ → ℕ → ℕ → ℕ → ℕ
-openNumber im sheet columns lines n =
-    refusedBy (openRefusal im sheet columns lines before (12 unless (n =? sessionSize)))
+openNumber im extent columns lines n =
+    refusedBy (openRefusal im extent columns lines before (12 unless (n =? sessionSize)))
 
 unfoldable pub openedSheet : List ℕ → List ℕ → ℕ → ℕ → ℕ → List ℕ
 openedSheet im sheet columns lines n = if n =? sessionSize then openSheet im sheet columns lines else sheet
 
 -- the session, closed where it is refused
 unfoldable pub openedBytes : List ℕ → ℕ → ℕ → ℕ → List ℕ → List ℕ
-openedBytes im sheet columns lines bs =
-    sessionWritten (openAnswer im sheet columns lines .session) bs
+openedBytes im extent columns lines bs =
+    sessionWritten (openAnswer im extent columns lines .session) bs
 
 -- the session that the bytes then are, as Open gives it; no buffer of another length is a session that fits
 unfoldable pub openedSession : List ℕ → ℕ → ℕ → ℕ → ℕ → Session
-openedSession im sheet columns lines n =
-    if n =? sessionSize then openAnswer im sheet columns lines .session else closed
+openedSession im extent columns lines n =
+    if n =? sessionSize then openAnswer im extent columns lines .session else closed
 
 -- ---- Event: the session that the bytes then are is that of `eventStep`
 
@@ -47,10 +47,10 @@ eventBytes im sheet bs e =
 -- ---- Draw, with a picture of n bytes
 
 unfoldable pub drawNumber : List ℕ → ℕ → List ℕ → ℕ → ℕ
-drawNumber im sheet bs n =
-    if drawRefusal im sheet (sessionFrom bs) n =? 0
-    then cursorNumber (drawCursor im sheet (sessionFrom bs) n)
-    else refusedBy (drawRefusal im sheet (sessionFrom bs) n)
+drawNumber im extent bs n =
+    if drawRefusal im extent (sessionFrom bs) n =? 0
+    then cursorNumber (drawCursor im extent (sessionFrom bs) n)
+    else refusedBy (drawRefusal im extent (sessionFrom bs) n)
 
 -- ---- Option text: where the item's own bytes begin in the image, and how many they are
 
@@ -63,7 +63,7 @@ abbrev pub textRefusedFrom : ℕ
 textRefusedFrom = 4294967296
 
 unfoldable pub textNumber : List ℕ → ℕ → ℕ → ℕ → ℕ
-textNumber im sheet place item =
-    if textRefusal im sheet place item =? 0
-    then placeFactor * textPlace im sheet place item .start .0 + textPlace im sheet place item .length
-    else textRefusedFrom + textRefusal im sheet place item
+textNumber im extent place item =
+    if textRefusal im extent place item =? 0
+    then placeFactor * textPlace im extent place item .start .0 + textPlace im extent place item .length
+    else textRefusedFrom + textRefusal im extent place item

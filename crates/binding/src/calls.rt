@@ -42,14 +42,14 @@ fn byte_of(n: u32) -> u8
 }
 
 // The refusal of an Open whose session would not fit its buffer: 1, 2 to 11, then 12.
-fn unsized_refusal(image: &[u8], sheet: usize, columns: u8, lines: u8) -> u8
-    ensures { λ r. ⌜ r ≡ openRefusal (now (image .entry)) sheet columns lines before 12 ⌝ }
+fn unsized_refusal(image: &[u8], extent: usize, columns: u8, lines: u8) -> u8
+    ensures { λ r. ⌜ r ≡ openRefusal (now (image .entry)) extent columns lines before 12 ⌝ }
 {
     let shape = shape_fits(columns, lines);
     if !shape {
         return NO_SHAPE;
     }
-    session_refusal(refusal_of(image, sheet), image, Session::closed())
+    session_refusal(refusal_of(image, extent), image, Session::closed())
 }
 
 #[no_mangle]

@@ -227,8 +227,8 @@ module _ {Submenu : ℕ → List Field → ℕ → Type 0} where
   no-lines e (Lines.more end f l b a ls) = no-line e l
 
 -- the image is not well formed, whatever the sheet
-pub not-well-formed : (sheet : ℕ) → WellFormed wrongPadding sheet → ⊥
+pub not-well-formed : (extent : ℕ) → WellFormed wrongPadding extent → ⊥
 unfolding Table
-not-well-formed sheet w =
+not-well-formed extent w =
     let t = w .table in
     no-lines (omega arith) (t .lines)

@@ -156,10 +156,11 @@ pub data Every (P : Field → Type 0) : List Field → Type 0 where
   none : Every P []
   add : {f : Field} {fs : List Field} → P f → Every P fs → Every P (f ∷ fs)
 
--- 01, row 10, R18: where there is a field the sheet is not too long, and the field's bytes lie in it
-pub record InSheet (sheet : ℕ) (f : Field) : Type 0 where
-  pub short : sheet ≤ longestSheet
-  pub inside : f .sheet .0 + sizeOf f ≤ sheet
+-- 01, row 10, R18: the extent of a sheet is how many bytes it has. Where there is a field the sheet is not
+-- too long, and the field's bytes lie in it
+pub record InSheet (extent : ℕ) (f : Field) : Type 0 where
+  pub short : extent ≤ longestSheet
+  pub inside : f .sheet .0 + sizeOf f ≤ extent
 
 -- byte x of the sheet is one of the field's; a trigger has none
 pub record Holds (f : Field) (x : ℕ) : Type 0 where
@@ -177,12 +178,12 @@ pub data Apart : List Field → Type 0 where
 
 -- 7.2, 01: the prolog, and the top table after it; lines and fields, counted as often as they are reached,
 -- are few enough; the fields' bytes lie in a sheet of so many bytes, and apart
-pub record WellFormed (im : List ℕ) (sheet : ℕ) : Type 0 where
+pub record WellFormed (im : List ℕ) (extent : ℕ) : Type 0 where
   pub fields : List Field
   pub lines : ℕ
   pub prolog : Prolog im
   pub table : Table im deepestTable prologBytes fields lines
   pub few-lines : lines ≤ mostLines
   pub few-fields : length fields ≤ mostFields
-  pub inside : Every (InSheet sheet) fields
+  pub inside : Every (InSheet extent) fields
   pub apart : Apart fields

@@ -19,16 +19,16 @@ use Rattle.handset.specs.Refusals.{_before_, _unless_, sessionRefusal}
 use Rattle.handset.specs.Draw.{drawRefusal, drawCursor, drawnPicture}
 
 -- what a Draw that is not refused has tested
-pub record Granted (im : List ℕ) (sheet : ℕ) (s : Session) (n : ℕ) : Type 0 where
-  pub accepted : refusalOf im sheet ≡ 0
+pub record Granted (im : List ℕ) (extent : ℕ) (s : Session) (n : ℕ) : Type 0 where
+  pub accepted : refusalOf im extent ≡ 0
   pub fits : sessionFits im s ≡ true
   pub size : n ≡ s .columns * s .lines
 
-pub granted : (im : List ℕ) (sheet : ℕ) (s : Session) (n : ℕ) → drawRefusal im sheet s n ≡ 0 → Granted im sheet s n
+pub granted : (im : List ℕ) (extent : ℕ) (s : Session) (n : ℕ) → drawRefusal im extent s n ≡ 0 → Granted im extent s n
 unfolding drawRefusal
-granted im sheet s n h =
+granted im extent s n h =
     let a = none-before _ _ h in
-    let b = session-granted im sheet s (a .0) in
+    let b = session-granted im extent s (a .0) in
     record {
       accepted = b .accepted;
       fits = b .fits;
@@ -36,10 +36,10 @@ granted im sheet s n h =
     }
 
 -- the refusal of a Draw, from that of image, sheet and session
-pub refusal-from : (im : List ℕ) (sheet : ℕ) (s : Session) (n u k : ℕ) → u ≡ sessionRefusal im sheet s → k ≡ (u before (1 unless (n =? s .columns * s .lines)))
-    → k ≡ drawRefusal im sheet s n
+pub refusal-from : (im : List ℕ) (extent : ℕ) (s : Session) (n u k : ℕ) → u ≡ sessionRefusal im extent s → k ≡ (u before (1 unless (n =? s .columns * s .lines)))
+    → k ≡ drawRefusal im extent s n
 unfolding drawRefusal
-refusal-from im sheet s n u k p q = rw p at q
+refusal-from im extent s n u k p q = rw p at q
 
 pub shape-fits : (im : List ℕ) (s : Session) → sessionFits im s ≡ true → shapeFits (s .columns) (s .lines) ≡ true
 unfolding sessionFits

@@ -60,36 +60,36 @@ unfolding listed
 still-none p xs i h n = let z : i + 1 ≡ suc i = omega arith in rw z (not-yet p (listed xs i) (entryAt xs i) h n)
 
 -- the refusal by the state that the check came to
-pub refusal-is : (im : List ℕ) (sheet place item : ℕ) (s : State) → s ≡ checked im sheet
-    → textRefusal im sheet place item
+pub refusal-is : (im : List ℕ) (extent place item : ℕ) (s : State) → s ≡ checked im extent
+    → textRefusal im extent place item
     ≡ s .progress .refusal before (14 unless (reached place (s .fields) and (item <? itemsIn (componentAt im place .field .kind))))
 unfolding textRefusal refusalOf
-refusal-is im sheet place item s e = rw e
+refusal-is im extent place item s e = rw e
 
 -- a bad image
-pub refusal-bad : (im : List ℕ) (sheet place item : ℕ) (w : Progress) → w ≡ checked im sheet .progress → (w .refusal ≡ 0 → ⊥) → w .refusal ≡ textRefusal im sheet place item
+pub refusal-bad : (im : List ℕ) (extent place item : ℕ) (w : Progress) → w ≡ checked im extent .progress → (w .refusal ≡ 0 → ⊥) → w .refusal ≡ textRefusal im extent place item
 unfolding textRefusal refusalOf
-refusal-bad im sheet place item w e h = rw e (sym (first-given _ _ (rw e at h)))
+refusal-bad im extent place item w e h = rw e (sym (first-given _ _ (rw e at h)))
 
 -- where the text of a call that is refused is, and of one that is not
-pub place-none : (im : List ℕ) (sheet place item : ℕ) → (textRefusal im sheet place item ≡ 0 → ⊥)
-    → textPlace im sheet place item ≡ textAt (textRefusal im sheet place item) 0 0
+pub place-none : (im : List ℕ) (extent place item : ℕ) → (textRefusal im extent place item ≡ 0 → ⊥)
+    → textPlace im extent place item ≡ textAt (textRefusal im extent place item) 0 0
 unfolding textPlace
-place-none im sheet place item h = if-ne _ 0 _ _ h
+place-none im extent place item h = if-ne _ 0 _ _ h
 
-pub place-some : (im : List ℕ) (sheet place item : ℕ) → textRefusal im sheet place item ≡ 0
-    → textPlace im sheet place item ≡ textAt 0 (itemPlace im place item + 1) (byteAt im (itemPlace im place item))
+pub place-some : (im : List ℕ) (extent place item : ℕ) → textRefusal im extent place item ≡ 0
+    → textPlace im extent place item ≡ textAt 0 (itemPlace im place item + 1) (byteAt im (itemPlace im place item))
 unfolding textPlace
-place-some im sheet place item h = if-eq _ 0 _ _ h
+place-some im extent place item h = if-eq _ 0 _ _ h
 
 -- its refusal is the call's
-pub place-refusal : (im : List ℕ) (sheet place item : ℕ) → textPlace im sheet place item .refusal ≡ textRefusal im sheet place item
+pub place-refusal : (im : List ℕ) (extent place item : ℕ) → textPlace im extent place item .refusal ≡ textRefusal im extent place item
 unfolding textPlace
-place-refusal im sheet place item =
-    let k = textRefusal im sheet place item in
+place-refusal im extent place item =
+    let k = textRefusal im extent place item in
     if-ind (λ (t : TextPlace). t .refusal ≡ k) (k =? 0) (λ e. sym (eqb-true k 0 e)) (λ _. refl)
 
 -- a refused call returns an empty part
-pub text-none : (im : List ℕ) (sheet place item : ℕ) → (textRefusal im sheet place item ≡ 0 → ⊥) → optionText im sheet place item ≡ []
+pub text-none : (im : List ℕ) (extent place item : ℕ) → (textRefusal im extent place item ≡ 0 → ⊥) → optionText im extent place item ≡ []
 unfolding optionText
-text-none im sheet place item h = rw (place-none im sheet place item h)
+text-none im extent place item h = rw (place-none im extent place item h)

@@ -101,15 +101,15 @@ reached-stands im place (Every.add {f = f} p ps) h =
 -- ---- the call
 
 -- what is known of a call that is not refused
-record Granted (im : List ℕ) (sheet place item : ℕ) : Type 0 where
-  accepted : refusalOf im sheet ≡ 0
-  found : reached place (checked im sheet .fields) ≡ true
+record Granted (im : List ℕ) (extent place item : ℕ) : Type 0 where
+  accepted : refusalOf im extent ≡ 0
+  found : reached place (checked im extent .fields) ≡ true
   one : item < itemsIn (componentAt im place .field .kind)
 
 -- a refusal of 0 has passed every test
-granted : (im : List ℕ) (sheet place item : ℕ) → textRefusal im sheet place item ≡ 0 → Granted im sheet place item
+granted : (im : List ℕ) (extent place item : ℕ) → textRefusal im extent place item ≡ 0 → Granted im extent place item
 unfolding textRefusal
-granted im sheet place item h =
+granted im extent place item h =
     let a = none-before _ _ h in
     let b = none-unless 14 _ (λ z. omega arith) (a .1) in
     record {
@@ -120,13 +120,13 @@ granted im sheet place item h =
 
 -- whenever the call is not refused the item is all in the image
 pub item-inside :
-    (im : List ℕ) (sheet place item : ℕ) → textRefusal im sheet place item ≡ 0 →
+    (im : List ℕ) (extent place item : ℕ) → textRefusal im extent place item ≡ 0 →
     itemPlace im place item + 1 + byteAt im (itemPlace im place item) ≤ length im
-item-inside im sheet place item z =
-    reached-stands im place all (rw (counted im sheet w .index) at (g .found)) .stands item (g .one)
+item-inside im extent place item z =
+    reached-stands im place all (rw (counted im extent w .index) at (g .found)) .stands item (g .one)
   where
-    g : Granted im sheet place item
-    g = granted im sheet place item z
+    g : Granted im extent place item
+    g = granted im extent place item z
 
     w : WellFormed im sheet
     w = accepted-exactly-when-well-formed im sheet .0 (g .accepted)
@@ -135,34 +135,34 @@ item-inside im sheet place item z =
     all = every-table im _ (component-stands im) _ _ _ _ (w .table)
 
 -- and the answer is the item's own bytes
-pub item-is : (im : List ℕ) (sheet place item : ℕ) → textRefusal im sheet place item ≡ 0 → ItemIs im place item (optionText im sheet place item)
+pub item-is : (im : List ℕ) (extent place item : ℕ) → textRefusal im extent place item ≡ 0 → ItemIs im place item (optionText im extent place item)
 unfolding optionText
-item-is im sheet place item z =
-    record { inside = item-inside im sheet place item z; bytes = rw (place-some im sheet place item z) }
+item-is im extent place item z =
+    record { inside = item-inside im extent place item z; bytes = rw (place-some im extent place item z) }
 
 -- the part that the call shows is in the image, refused or not
 pub part-inside :
-    (im : List ℕ) (sheet place item : ℕ) →
-    textPlace im sheet place item .start .0 + textPlace im sheet place item .length ≤ length im
+    (im : List ℕ) (extent place item : ℕ) →
+    textPlace im extent place item .start .0 + textPlace im extent place item .length ≤ length im
 unfolding textPlace
-part-inside im sheet place item =
-    let k = textRefusal im sheet place item in
+part-inside im extent place item =
+    let k = textRefusal im extent place item in
     if-ind (λ (t : TextPlace). t .start .0 + t .length ≤ length im) (k =? 0)
-    (λ e. item-inside im sheet place item (eqb-true k 0 e)) (λ _. omega arith)
+    (λ e. item-inside im extent place item (eqb-true k 0 e)) (λ _. omega arith)
 
 -- what is shown where the code has found the place
-module _ (im : List ℕ) (sheet place item : ℕ) {t : TextPlace} (e : t ≡ textPlace im sheet place item) where
+module _ (im : List ℕ) (extent place item : ℕ) {t : TextPlace} (e : t ≡ textPlace im extent place item) where
   pub shown-inside : t .start .0 + t .length ≤ length im
-  shown-inside = rw e (part-inside im sheet place item)
+  shown-inside = rw e (part-inside im extent place item)
 
-  pub shown : partAt (t .start .0) (t .start .0 + t .length - t .start .0) im ≡ optionText im sheet place item
+  pub shown : partAt (t .start .0) (t .start .0 + t .length - t .start .0) im ≡ optionText im extent place item
   unfolding optionText
   shown =
       let z : t .start .0 + t .length - t .start .0 ≡ t .length = omega arith in
       rw (z, e)
 
-  pub shown-refusal : t .refusal ≡ textRefusal im sheet place item
-  shown-refusal = rw e (place-refusal im sheet place item)
+  pub shown-refusal : t .refusal ≡ textRefusal im extent place item
+  shown-refusal = rw e (place-refusal im extent place item)
 
 -- texts come no earlier than the first
 from-on : (im : List ℕ) (k at : ℕ) → at ≤ itemFrom im k at
@@ -172,20 +172,20 @@ from-on im (suc k) at =
     if-ind (λ (p : ℕ). at ≤ p) (at <? length im) (λ _. omega (arith, from-on im k (at + 1 + byteAt im at))) (λ _. omega arith)
 
 -- the call by what the code finds: the refusal, and for a text that is given the item's place
-module _ (im : List ℕ) (sheet place item k : ℕ) (q : k ≡ textRefusal im sheet place item) where
-  pub not-placed : (k ≡ 0 → ⊥) → textAt k 0 0 ≡ textPlace im sheet place item
-  not-placed h = rw q (sym (place-none im sheet place item (rw q at h)))
+module _ (im : List ℕ) (extent place item k : ℕ) (q : k ≡ textRefusal im extent place item) where
+  pub not-placed : (k ≡ 0 → ⊥) → textAt k 0 0 ≡ textPlace im extent place item
+  not-placed h = rw q (sym (place-none im extent place item (rw q at h)))
 
   module _ (z : k ≡ 0) (p : ℕ) (e : p ≡ (if place <? length im then itemPlace im place item else 0)) where
     found : p ≡ itemPlace im place item
     found =
-        e ∙ if-lt place (length im) _ _ (omega (arith, item-inside im sheet place item (sym q ∙ z), from-on im item (place + 10)))
+        e ∙ if-lt place (length im) _ _ (omega (arith, item-inside im extent place item (sym q ∙ z), from-on im item (place + 10)))
 
     pub placed-inside : p + 1 ≤ length im
-    placed-inside = rw found (omega (arith, item-inside im sheet place item (sym q ∙ z)))
+    placed-inside = rw found (omega (arith, item-inside im extent place item (sym q ∙ z)))
 
-    pub placed : (n : ℕ) → n ≡ byteAt im p → textAt 0 (p + 1) n ≡ textPlace im sheet place item
-    placed n f = rw (f, found) (sym (place-some im sheet place item (sym q ∙ z)))
+    pub placed : (n : ℕ) → n ≡ byteAt im p → textAt 0 (p + 1) n ≡ textPlace im extent place item
+    placed n f = rw (f, found) (sym (place-some im extent place item (sym q ∙ z)))
 
 -- the first item is after the ten bytes of 7.5.21
 pub first-item : (im : List ℕ) (place : ℕ) → itemPlace im place 0 ≡ place + 10

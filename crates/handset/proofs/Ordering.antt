@@ -51,18 +51,18 @@ none-unless k true h z = refl
 none-unless k false h z = absurd (h z)
 
 -- the refusal of image and sheet, then the session's
-pub session-from : (im : List ℕ) (sheet : ℕ) (s : Session) (k u : ℕ) → k ≡ refusalOf im sheet → u ≡ (k before (12 unless sessionFits im s))
-    → u ≡ sessionRefusal im sheet s
+pub session-from : (im : List ℕ) (extent : ℕ) (s : Session) (k u : ℕ) → k ≡ refusalOf im extent → u ≡ (k before (12 unless sessionFits im s))
+    → u ≡ sessionRefusal im extent s
 unfolding sessionRefusal
-session-from im sheet s k u p q = rw p at q
+session-from im extent s k u p q = rw p at q
 
 -- what has been tested where image, sheet and session are not refused
-pub record Granted (im : List ℕ) (sheet : ℕ) (s : Session) : Type 0 where
-  pub accepted : refusalOf im sheet ≡ 0
+pub record Granted (im : List ℕ) (extent : ℕ) (s : Session) : Type 0 where
+  pub accepted : refusalOf im extent ≡ 0
   pub fits : sessionFits im s ≡ true
 
-pub session-granted : (im : List ℕ) (sheet : ℕ) (s : Session) → sessionRefusal im sheet s ≡ 0 → Granted im sheet s
+pub session-granted : (im : List ℕ) (extent : ℕ) (s : Session) → sessionRefusal im extent s ≡ 0 → Granted im extent s
 unfolding sessionRefusal
-session-granted im sheet s h =
+session-granted im extent s h =
     let a = none-before _ _ h in
     record { accepted = a .0; fits = none-unless 12 (sessionFits im s) (λ z. omega arith) (a .1) }

@@ -16,9 +16,9 @@ use Rattle.handset.specs.Event.{eventRefusal, refusedWith, eventStep, ev
 use Rattle.handset.proofs.Ordering.{Granted, none-before, none-unless, session-granted}
 
 -- the refusal of an Event, from that of image, sheet and session
-pub refusal-from : (im : List ℕ) (sheet : ℕ) (s : Session) (e u k : ℕ) → u ≡ sessionRefusal im sheet s → k ≡ (u before (13 unless (e ≤? second))) → k ≡ eventRefusal im sheet s e
+pub refusal-from : (im : List ℕ) (extent : ℕ) (s : Session) (e u k : ℕ) → u ≡ sessionRefusal im extent s → k ≡ (u before (13 unless (e ≤? second))) → k ≡ eventRefusal im extent s e
 unfolding eventRefusal
-refusal-from im sheet s e u k p q = rw p at q
+refusal-from im extent s e u k p q = rw p at q
 
 module _ (im sheet : List ℕ) (s : Session) (e k : ℕ) (q : k ≡ eventRefusal im (length sheet) s e) where
   -- a refused Event hands the session back and leaves the sheet
@@ -40,12 +40,12 @@ module _ (im sheet : List ℕ) (s : Session) (e k : ℕ) (q : k ≡ eventRefusal
   stepped-sheet h = sym (rw (← q) (if-eq k 0 _ _ h))
 
 -- what an Event that is not refused has tested
-pub record EventGranted (im : List ℕ) (sheet : ℕ) (s : Session) (e : ℕ) : Type 0 where
-  pub granted : Granted im sheet s
+pub record EventGranted (im : List ℕ) (extent : ℕ) (s : Session) (e : ℕ) : Type 0 where
+  pub granted : Granted im extent s
   pub known : e ≤ 16
 
-pub event-granted : (im : List ℕ) (sheet : ℕ) (s : Session) (e : ℕ) → eventRefusal im sheet s e ≡ 0 → EventGranted im sheet s e
+pub event-granted : (im : List ℕ) (extent : ℕ) (s : Session) (e : ℕ) → eventRefusal im extent s e ≡ 0 → EventGranted im extent s e
 unfolding eventRefusal
-event-granted im sheet s e h =
+event-granted im extent s e h =
     let a = none-before _ _ h in
-    record { granted = session-granted im sheet s (a .0); known = leb-true e 16 (none-unless 13 _ (λ z. omega arith) (a .1)) }
+    record { granted = session-granted im extent s (a .0); known = leb-true e 16 (none-unless 13 _ (λ z. omega arith) (a .1)) }

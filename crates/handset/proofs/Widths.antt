@@ -9,7 +9,7 @@ use Rattle.acceptance.proofs.Acceptance.{accepted-exactly-when-well-formed}
 use Rattle.acceptance.proofs.Fields.{every-table}
 use Rattle.texts.proofs.Widths.{Wide, component-wide}
 
-pub fields-wide : (im : List ℕ) (sheet : ℕ) (e : refusalOf im sheet ≡ 0)
-    → Every (Wide im) (accepted-exactly-when-well-formed im sheet .0 e .fields)
-fields-wide im sheet e =
-    every-table im (Wide im) (component-wide im) _ _ _ _ (accepted-exactly-when-well-formed im sheet .0 e .table)
+pub fields-wide : (im : List ℕ) (extent : ℕ) (e : refusalOf im extent ≡ 0)
+    → Every (Wide im) (accepted-exactly-when-well-formed im extent .0 e .fields)
+fields-wide im extent e =
+    every-table im (Wide im) (component-wide im) _ _ _ _ (accepted-exactly-when-well-formed im extent .0 e .table)

@@ -10,11 +10,11 @@ use Rattle.handset.specs.Refusals.{_before_, _unless_, sessionRefusal}
 
 -- 01, Refusal numbers: 2 to 12, and 1 last; n is the picture's length
 unfoldable pub drawRefusal : List ℕ → ℕ → Session → ℕ → ℕ
-drawRefusal im sheet s n = sessionRefusal im sheet s before (1 unless (n =? s .columns * s .lines))
+drawRefusal im extent s n = sessionRefusal im extent s before (1 unless (n =? s .columns * s .lines))
 
 -- the row and the column of the edit cursor, or none; none where it is refused
 unfoldable pub drawCursor : List ℕ → ℕ → Session → ℕ → List ℕ
-drawCursor im sheet s n = if drawRefusal im sheet s n =? 0 then editCursor im s else []
+drawCursor im extent s n = if drawRefusal im extent s n =? 0 then editCursor im s else []
 
 -- the picture after Draw: a refused Draw alters no byte
 unfoldable pub drawnPicture : List ℕ → List ℕ → Session → List ℕ → List ℕ

@@ -13,7 +13,7 @@ use Rattle.handset.specs.Refusals.{_before_, _unless_, sessionRefusal}
 
 -- 01, Refusal numbers: 2 to 12, then 13 for an event above the last, which is a second
 unfoldable pub eventRefusal : List ℕ → ℕ → Session → ℕ → ℕ
-eventRefusal im sheet s e = sessionRefusal im sheet s before (13 unless (e ≤? second))
+eventRefusal im extent s e = sessionRefusal im extent s before (13 unless (e ≤? second))
 
 -- a refused Event returns the session it got, with the refusal number
 abbrev pub refusedWith : Session → ℕ → Stepped

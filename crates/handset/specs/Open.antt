@@ -14,13 +14,13 @@ use Rattle.handset.specs.declared.open.Opened.{Opened}
 
 -- 01, Refusal numbers: Open checks 1 first, then 2 to 11
 unfoldable pub openRefusal : List ℕ → ℕ → ℕ → ℕ → ℕ
-openRefusal im sheet columns lines = (1 unless shapeFits columns lines) before refusalOf im sheet
+openRefusal im extent columns lines = (1 unless shapeFits columns lines) before refusalOf im extent
 
 -- the session with the refusal number, 0 for none: a refused Open returns a closed session
 unfoldable pub openAnswer : List ℕ → ℕ → ℕ → ℕ → Opened
-openAnswer im sheet columns lines = record {
-  refusal = openRefusal im sheet columns lines;
-  session = if openRefusal im sheet columns lines =? 0 then opened columns lines else closed;
+openAnswer im extent columns lines = record {
+  refusal = openRefusal im extent columns lines;
+  session = if openRefusal im extent columns lines =? 0 then opened columns lines else closed;
 }
 
 -- the defaults of fields written, one after another; sheet bytes of no field stay

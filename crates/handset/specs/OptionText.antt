@@ -32,9 +32,9 @@ itemsIn Trigger = 0
 
 -- 01, row 14: the place is not that of a reached option field, or there is no such item; 2 to 11 come first
 unfoldable pub textRefusal : List ℕ → ℕ → ℕ → ℕ → ℕ
-textRefusal im sheet place item =
-    refusalOf im sheet
-    before (14 unless (reached place (checked im sheet .fields)
+textRefusal im extent place item =
+    refusalOf im extent
+    before (14 unless (reached place (checked im extent .fields)
     and (item <? itemsIn (componentAt im place .field .kind))))
 
 -- a refusal, or the place of a text's first byte and how many there are
@@ -44,15 +44,15 @@ textAt k start n = record { refusal = k; start = record { 0 = start }; length = 
 -- where the item's own bytes are: after its length byte, as many as that says; a refusal has neither place
 -- nor length
 unfoldable pub textPlace : List ℕ → ℕ → ℕ → ℕ → TextPlace
-textPlace im sheet place item =
-    if textRefusal im sheet place item =? 0
+textPlace im extent place item =
+    if textRefusal im extent place item =? 0
     then textAt 0 (itemPlace im place item + 1) (byteAt im (itemPlace im place item))
-    else textAt (textRefusal im sheet place item) 0 0
+    else textAt (textRefusal im extent place item) 0 0
 
 -- the item's own bytes are that part of the image; a refusal gives an empty part
 unfoldable pub optionText : List ℕ → ℕ → ℕ → ℕ → List ℕ
-optionText im sheet place item =
-    partAt (textPlace im sheet place item .start .0) (textPlace im sheet place item .length) im
+optionText im extent place item =
+    partAt (textPlace im extent place item .start .0) (textPlace im extent place item .length) im
 
 -- a text is the item's: all of the item is in the image, and the text is the bytes after its length byte, as
 -- many as that says

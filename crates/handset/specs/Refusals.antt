@@ -19,4 +19,4 @@ k unless t = if t then 0 else k
 
 -- 01, Refusal numbers: a call that takes a session checks 2 to 11, then 12
 unfoldable pub sessionRefusal : List ℕ → ℕ → Session → ℕ
-sessionRefusal im sheet s = refusalOf im sheet before (12 unless sessionFits im s)
+sessionRefusal im extent s = refusalOf im extent before (12 unless sessionFits im s)

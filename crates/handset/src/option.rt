@@ -50,10 +50,10 @@ fn items_in(kind: Kind) -> usize
 }
 
 // The refusal number, 0 for none.
-fn text_refusal(image: &[u8], sheet: usize, place: usize, item: usize) -> u8
-    ensures { λ r. ⌜ r ≡ textRefusal (now (image .entry)) sheet place item ⌝ }
+fn text_refusal(image: &[u8], extent: usize, place: usize, item: usize) -> u8
+    ensures { λ r. ⌜ r ≡ textRefusal (now (image .entry)) extent place item ⌝ }
 {
-    let c = check(image, sheet);
+    let c = check(image, extent);
     let code = c.progress.refusal;
     let fields = c.progress.fields;
     let index = c.index;

@@ -234,7 +234,7 @@ module _ (im : List ℕ) where
     line-known q m h = part-of (cursor-line-in im (length (t .sheet)) w s (g .granted .fits) .line .parts) q m .known (editable-holds im q h)
 
     on-line : (q : ℕ) → List·Memᴰ q (componentsOf im (cursorLine im (s .here))) → componentAt im q .editable ≡ true → IsField im q
-    on-line q m h = record { sheet = length (t .sheet); formed = w; known = line-known q m h }
+    on-line q m h = record { extent = length (t .sheet); formed = w; known = line-known q m h }
 
     -- ENTER while browsing
     enter-right : e =? enter ≡ true → e =? second ≡ false → s .mode ≡ mode.Browsing → Right t e (enterStep im (t .sheet) (withIdle s 0)) (t .sheet)

@@ -62,11 +62,11 @@ rulesOf im = record {
 }
 
 -- a field of an image is at a place: for some length of the sheet the image is well formed, and what is read
--- at the place is one of its fields. Every field of the image is one (`Promises`, `every-field`), and the
--- fields are the same for every sheet (`progress` `same-fields`)
+-- at the place is one of its fields. Every field of the image is one (`promises`, `Accepts.every-field`), and
+-- the fields are the same for every sheet (`acceptance` `same-fields`)
 pub record IsField (im : List ℕ) (q : ℕ) : Type 0 where
-  pub sheet : ℕ
-  pub formed : WellFormed im sheet
+  pub extent : ℕ
+  pub formed : WellFormed im extent
   pub known : List·Memᴰ (fieldAt im q) (formed .fields)
 
 -- the n bytes of a sheet from a place on lie beside every field

@@ -44,11 +44,11 @@ digits-more ds n d k h = rw add-one (and-i (digits-before ds n n d (omega arith)
 
 -- ---- the steps, for a session that fits an image which is well formed
 
-module _ (im : List ℕ) (c l : ℕ) (shape : shapeFits c l ≡ true) (sheet : ℕ) (w : WellFormed im sheet) where
+module _ (im : List ℕ) (c l : ℕ) (shape : shapeFits c l ≡ true) (extent : ℕ) (w : WellFormed im extent) where
   -- the password of the cursor line
   password-stands : (s : Session) → Good im c l s → cursorHead im (s .here) .protected ≡ true → Stands im (cursorHead im (s .here) .password)
   unfolding cursorHead
-  password-stands s g p = head-guarded im (cursorLine im (s .here)) .guarded p (cursor-line-in im sheet w s (fits-of im c l s shape g) .line .good)
+  password-stands s g p = head-guarded im (cursorLine im (s .here)) .guarded p (cursor-line-in im extent w s (fits-of im c l s shape g) .line .good)
 
   -- a protected line has a submenu
   submenu-there : (s : Session) → cursorHead im (s .here) .protected ≡ true → cursorHead im (s .here) .submenu ≡ true

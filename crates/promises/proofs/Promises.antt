@@ -73,32 +73,32 @@ two-tests r a b t u h =
     (λ z. let e = eqb-false r 0 z in
     rw (if-false {t = r =? 0} (if t then (if u then 0 else b) else a) r z, first-given r (if t then 0 else a) e) (first-given r _ e))
 
-open-order : (im : List ℕ) (sheet columns lines : ℕ) → openRefusal im sheet columns lines ≡ (if shapeFits columns lines then refusalOf im sheet else 1)
+open-order : (im : List ℕ) (extent columns lines : ℕ) → openRefusal im extent columns lines ≡ (if shapeFits columns lines then refusalOf im extent else 1)
 unfolding openRefusal
-open-order im sheet columns lines =
+open-order im extent columns lines =
     by-test (shapeFits columns lines)
-    (λ z. rw (if-true {t = shapeFits columns lines} (refusalOf im sheet) 1 z, holding 1 (shapeFits columns lines) z) (next-given 0 _ refl))
-    (λ z. rw (if-false {t = shapeFits columns lines} (refusalOf im sheet) 1 z, failing 1 (shapeFits columns lines) z) (first-given 1 _ (λ e. omega arith)))
+    (λ z. rw (if-true {t = shapeFits columns lines} (refusalOf im extent) 1 z, holding 1 (shapeFits columns lines) z) (next-given 0 _ refl))
+    (λ z. rw (if-false {t = shapeFits columns lines} (refusalOf im extent) 1 z, failing 1 (shapeFits columns lines) z) (first-given 1 _ (λ e. omega arith)))
 
-event-order : (im : List ℕ) (sheet : ℕ) (s : Session) (e : ℕ)
-    → eventRefusal im sheet s e
-    ≡ (if refusalOf im sheet =? 0 then (if sessionFits im s then (if e ≤? second then 0 else 13) else 12) else refusalOf im sheet)
+event-order : (im : List ℕ) (extent : ℕ) (s : Session) (e : ℕ)
+    → eventRefusal im extent s e
+    ≡ (if refusalOf im extent =? 0 then (if sessionFits im s then (if e ≤? second then 0 else 13) else 12) else refusalOf im extent)
 unfolding eventRefusal sessionRefusal
-event-order im sheet s e = two-tests (refusalOf im sheet) 12 13 (sessionFits im s) (e ≤? second) (λ z. omega arith)
+event-order im extent s e = two-tests (refusalOf im extent) 12 13 (sessionFits im s) (e ≤? second) (λ z. omega arith)
 
-draw-order : (im : List ℕ) (sheet : ℕ) (s : Session) (n : ℕ)
-    → drawRefusal im sheet s n
-    ≡ (if refusalOf im sheet =? 0 then (if sessionFits im s then (if n =? s .columns * s .lines then 0 else 1) else 12) else refusalOf im sheet)
+draw-order : (im : List ℕ) (extent : ℕ) (s : Session) (n : ℕ)
+    → drawRefusal im extent s n
+    ≡ (if refusalOf im extent =? 0 then (if sessionFits im s then (if n =? s .columns * s .lines then 0 else 1) else 12) else refusalOf im extent)
 unfolding drawRefusal sessionRefusal
-draw-order im sheet s n = two-tests (refusalOf im sheet) 12 1 (sessionFits im s) (n =? s .columns * s .lines) (λ z. omega arith)
+draw-order im extent s n = two-tests (refusalOf im extent) 12 1 (sessionFits im s) (n =? s .columns * s .lines) (λ z. omega arith)
 
-text-order : (im : List ℕ) (sheet place item : ℕ)
-    → textRefusal im sheet place item
-    ≡ (if refusalOf im sheet =? 0
-    then (if reached place (checked im sheet .fields) and (item <? itemsIn (fieldAt im place .kind)) then 0 else 14)
-    else refusalOf im sheet)
+text-order : (im : List ℕ) (extent place item : ℕ)
+    → textRefusal im extent place item
+    ≡ (if refusalOf im extent =? 0
+    then (if reached place (checked im extent .fields) and (item <? itemsIn (fieldAt im place .kind)) then 0 else 14)
+    else refusalOf im extent)
 unfolding textRefusal
-text-order im sheet place item = one-test (refusalOf im sheet) 14 _
+text-order im extent place item = one-test (refusalOf im extent) 14 _
 
 -- ---- demand 1
 
@@ -134,7 +134,7 @@ demand-1 im = record {
 pub field-stands : (im : List ℕ) (n : ℕ) (w : WellFormed im n) (g : Field) → List·Memᴰ g (w .fields) → (fieldAt im (g .image .0) ≡ g) × IsField im (g .image .0)
 field-stands im n w g m =
     let e = every-in (all-standing im n w) g m .reads in
-    (e, record { sheet = n; formed = w; known = rw e m })
+    (e, record { extent = n; formed = w; known = rw e m })
 
 -- what lies apart from every place of a field lies apart from every field
 apart-from-fields : (im : List ℕ) (n : ℕ) (w : WellFormed im n) (from k : ℕ)
@@ -149,12 +149,12 @@ sheet-beside im sheet columns lines h from n b =
     ∙ others-stay im sheet (formed im sheet columns lines h) from n (apart-from-fields im (length sheet) (formed im sheet columns lines h) from n b)
 
 -- Open accepts exactly the well-formed images, on a display of a shape that is allowed
-open-well : (im : List ℕ) (sheet columns lines : ℕ)
-    → (openRefusal im sheet columns lines ≡ 0 → (shapeFits columns lines ≡ true) × WellFormed im sheet)
-    × ((shapeFits columns lines ≡ true) × WellFormed im sheet → openRefusal im sheet columns lines ≡ 0)
+open-well : (im : List ℕ) (extent columns lines : ℕ)
+    → (openRefusal im extent columns lines ≡ 0 → (shapeFits columns lines ≡ true) × WellFormed im extent)
+    × ((shapeFits columns lines ≡ true) × WellFormed im extent → openRefusal im extent columns lines ≡ 0)
 unfolding openRefusal
-open-well im sheet columns lines =
-    let a = accepted-exactly-when-well-formed im sheet in (
+open-well im extent columns lines =
+    let a = accepted-exactly-when-well-formed im extent in (
       λ z. let n = none-before _ _ z in (none-unless 1 (shapeFits columns lines) (λ e. omega arith) (n .0), a .0 (n .1)),
       λ h. next-given _ _ (holding 1 (shapeFits columns lines) (h .0)) ∙ a .1 (h .1),
     )
@@ -177,14 +177,14 @@ field-reached f (g ∷ fs) m =
     elsewhere z (inl e) = absurd (eqb-false _ _ z (ap (λ (x : Field). x .image .0) (sym e)))
     elsewhere z (inr k) = k
 
-given-text : (im : List ℕ) (sheet : ℕ) (w : WellFormed im sheet) (f : Field) → List·Memᴰ f (w .fields) → (item : ℕ) → item < itemsIn (f .kind)
-    → textRefusal im sheet (f .image .0) item ≡ 0
+given-text : (im : List ℕ) (extent : ℕ) (w : WellFormed im extent) (f : Field) → List·Memᴰ f (w .fields) → (item : ℕ) → item < itemsIn (f .kind)
+    → textRefusal im extent (f .image .0) item ≡ 0
 unfolding textRefusal
-given-text im sheet w f m item h =
-    next-given _ _ (accepted-exactly-when-well-formed im sheet .1 w)
+given-text im extent w f m item h =
+    next-given _ _ (accepted-exactly-when-well-formed im extent .1 w)
     ∙ holding 14 _
-    (and-i (rw (counted im sheet w .index) (field-reached f (w .fields) m))
-    (rw (field-stands im sheet w f m .0) (lt-ltb item (itemsIn (f .kind)) h)))
+    (and-i (rw (counted im extent w .index) (field-reached f (w .fields) m))
+    (rw (field-stands im extent w f m .0) (lt-ltb item (itemsIn (f .kind)) h)))
 
 -- and nothing else is reached
 reached-field : (p : ℕ) (fs : List Field) → reached p (map entryOf fs) ≡ true → Placed p fs
@@ -194,14 +194,14 @@ reached-field p (g ∷ fs) h =
     by-test (g .image .0 =? p) (λ z. record { field = g; known = List·Memᴰ·head refl; place = eqb-true _ _ z })
     (λ z. let r = reached-field p fs (sym (if-false _ _ z) ∙ h) in record { field = r .field; known = List·Memᴰ·tail (r .known); place = r .place })
 
-only-text : (im : List ℕ) (sheet place item : ℕ) → textRefusal im sheet place item ≡ 0 → IsField im place × (item < itemsIn (fieldAt im place .kind))
+only-text : (im : List ℕ) (extent place item : ℕ) → textRefusal im extent place item ≡ 0 → IsField im place × (item < itemsIn (fieldAt im place .kind))
 unfolding textRefusal
-only-text im sheet place item h =
+only-text im extent place item h =
     let n = none-before _ _ h in
-    let w = accepted-exactly-when-well-formed im sheet .0 (n .0) in
+    let w = accepted-exactly-when-well-formed im extent .0 (n .0) in
     let b = none-unless 14 _ (λ e. omega arith) (n .1) in
-    let r = reached-field place (w .fields) (rw (counted im sheet w .index) at (and-l _ _ b)) in
-    (rw (r .place) at (field-stands im sheet w (r .field) (r .known) .1), ltb-true item _ (and-r _ _ b))
+    let r = reached-field place (w .fields) (rw (counted im extent w .index) at (and-l _ _ b)) in
+    (rw (r .place) at (field-stands im extent w (r .field) (r .known) .1), ltb-true item _ (and-r _ _ b))
 
 -- a cursor is found again from its numbers
 cursor-once : (a b : EditCursor) → cursor.cursorPlace a ≡ cursor.cursorPlace b → a ≡ b

@@ -28,29 +28,29 @@ use Rattle.journal.specs.Rules.{fieldAt}
 -- the test of a field's settings
 pub record Numbers (im : List ℕ) : Type 0 where
   -- (theorem) a bad image or sheet gets the number that 01's table fixes for it
-  pub of-image : (sheet k : ℕ) → ((refusalOf im sheet ≡ k) × (k ≢ 0)) ↔ Refused im sheet k
+  pub of-image : (extent k : ℕ) → ((refusalOf im extent ≡ k) × (k ≢ 0)) ↔ Refused im extent k
   -- (by definition) Open: 1 first, then 2 to 11
-  pub of-open : (sheet columns lines : ℕ)
-      → openRefusal im sheet columns lines ≡ (if shapeFits columns lines then refusalOf im sheet else 1)
+  pub of-open : (extent columns lines : ℕ)
+      → openRefusal im extent columns lines ≡ (if shapeFits columns lines then refusalOf im extent else 1)
   -- (by definition) Event: 2 to 11, then 12, then 13
-  pub of-event : (sheet : ℕ) (s : Session) (e : ℕ)
-      → eventRefusal im sheet s e
-      ≡ (if refusalOf im sheet =? 0
+  pub of-event : (extent : ℕ) (s : Session) (e : ℕ)
+      → eventRefusal im extent s e
+      ≡ (if refusalOf im extent =? 0
       then (if sessionFits im s then (if e ≤? second then 0 else 13) else 12)
-      else refusalOf im sheet)
+      else refusalOf im extent)
   -- (by definition) Draw: 2 to 11, then 12, and 1 last
-  pub of-draw : (sheet : ℕ) (s : Session) (n : ℕ)
-      → drawRefusal im sheet s n
-      ≡ (if refusalOf im sheet =? 0
+  pub of-draw : (extent : ℕ) (s : Session) (n : ℕ)
+      → drawRefusal im extent s n
+      ≡ (if refusalOf im extent =? 0
       then (if sessionFits im s then (if n =? s .columns * s .lines then 0 else 1) else 12)
-      else refusalOf im sheet)
+      else refusalOf im extent)
   -- (by definition) Option text: 2 to 11, then 14
-  pub of-text : (sheet place item : ℕ)
-      → textRefusal im sheet place item
-      ≡ (if refusalOf im sheet =? 0
-      then (if reached place (checked im sheet .fields) and (item <? itemsIn (fieldAt im place .kind))
+  pub of-text : (extent place item : ℕ)
+      → textRefusal im extent place item
+      ≡ (if refusalOf im extent =? 0
+      then (if reached place (checked im extent .fields) and (item <? itemsIn (fieldAt im place .kind))
       then 0 else 14)
-      else refusalOf im sheet)
+      else refusalOf im extent)
 
 -- a refused Open
 pub record OpenRefused (im sheet : List ℕ) (columns lines : ℕ) : Type 0 where
@@ -83,12 +83,12 @@ pub record DrawRefused (im sheet : List ℕ) (s : Session) (picture : List ℕ) 
 -- whatever a call refuses, it gives 01's number for it and changes nothing
 pub record Demand1 (im : List ℕ) : Type 0 where
   pub numbers : Numbers im
-  pub refused-open : (sheet : List ℕ) (columns lines : ℕ)
-      → openRefusal im (length sheet) columns lines ≢ 0 → OpenRefused im sheet columns lines
-  pub refused-event : (sheet : List ℕ) (s : Session) (e : ℕ)
-      → eventRefusal im (length sheet) s e ≢ 0 → EventRefused im sheet s e
-  pub refused-draw : (sheet : List ℕ) (s : Session) (picture : List ℕ)
-      → drawRefusal im (length sheet) s (length picture) ≢ 0 → DrawRefused im sheet s picture
+  pub refused-open : (extent : List ℕ) (columns lines : ℕ)
+      → openRefusal im (length extent) columns lines ≢ 0 → OpenRefused im extent columns lines
+  pub refused-event : (extent : List ℕ) (s : Session) (e : ℕ)
+      → eventRefusal im (length extent) s e ≢ 0 → EventRefused im extent s e
+  pub refused-draw : (extent : List ℕ) (s : Session) (picture : List ℕ)
+      → drawRefusal im (length extent) s (length picture) ≢ 0 → DrawRefused im extent s picture
   -- (by definition) a refused Option text returns an empty part; it too is lent the sheet for reading only
-  pub refused-text : (sheet place item : ℕ)
-      → textRefusal im sheet place item ≢ 0 → optionText im sheet place item ≡ []
+  pub refused-text : (extent place item : ℕ)
+      → textRefusal im extent place item ≢ 0 → optionText im extent place item ≡ []

@@ -32,12 +32,12 @@ use Rattle.promises.specs.Pictures.{DrawPromises}
 -- what is accepted
 pub record Accepts (im : List ℕ) : Type 0 where
   -- (theorem) an image is accepted, with a sheet of so many bytes, exactly when it is well formed
-  pub accepted : (sheet : ℕ) → (refusalOf im sheet ≡ 0) ↔ WellFormed im sheet
+  pub accepted : (extent : ℕ) → (refusalOf im extent ≡ 0) ↔ WellFormed im extent
   -- (theorem) and Open accepts it with every shape that is allowed, and with no other
-  pub opens : (sheet columns lines : ℕ)
-      → (openRefusal im sheet columns lines ≡ 0) ↔ ((shapeFits columns lines ≡ true) × WellFormed im sheet)
+  pub opens : (extent columns lines : ℕ)
+      → (openRefusal im extent columns lines ≡ 0) ↔ ((shapeFits columns lines ≡ true) × WellFormed im extent)
   -- (theorem) fields are named by their image places, and none is missed
-  pub every-field : (sheet : ℕ) (w : WellFormed im sheet) (f : Field) → List·Memᴰ f (w .fields)
+  pub every-field : (extent : ℕ) (w : WellFormed im extent) (f : Field) → List·Memᴰ f (w .fields)
       → (fieldAt im (f .image .0) ≡ f) × IsField im (f .image .0)
 
 -- an Open that is not refused
@@ -81,14 +81,14 @@ pub record ToldApart : Type 0 where
 -- an option text
 pub record Texts (im : List ℕ) : Type 0 where
   -- (theorem) is given for each item of each option
-  pub given : (sheet : ℕ) (w : WellFormed im sheet) (f : Field) → List·Memᴰ f (w .fields)
-      → (item : ℕ) → item < itemsIn (f .kind) → textRefusal im sheet (f .image .0) item ≡ 0
+  pub given : (extent : ℕ) (w : WellFormed im extent) (f : Field) → List·Memᴰ f (w .fields)
+      → (item : ℕ) → item < itemsIn (f .kind) → textRefusal im extent (f .image .0) item ≡ 0
   -- (theorem) and for nothing else
-  pub only : (sheet place item : ℕ) → textRefusal im sheet place item ≡ 0
+  pub only : (extent place item : ℕ) → textRefusal im extent place item ≡ 0
       → IsField im place × (item < itemsIn (fieldAt im place .kind))
   -- (theorem) it is the item's own bytes, all of them in the image
-  pub own : (sheet place item : ℕ) → textRefusal im sheet place item ≡ 0
-      → ItemIs im place item (optionText im sheet place item)
+  pub own : (extent place item : ℕ) → textRefusal im extent place item ≡ 0
+      → ItemIs im place item (optionText im extent place item)
 
 -- protected lines, in a sitting: Open, and then a list of events
 pub record ProtectedLines (im sheet : List ℕ) (columns lines : ℕ) (es : List ℕ) : Type 0 where

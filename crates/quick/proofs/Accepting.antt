@@ -45,36 +45,36 @@ module _ (im : List ℕ) where
 
   -- the field of a component is taken, if it is one
   takes-claims :
-      {sheet : ℕ} {old new : List ℕ} {before after : ℕ} {fs : List Field} (es : List Entry) → sheet ≤ longestSheet → length es ≡ before → Covers old es →
-      Claims sheet old new before after fs → Takes sheet mostFields es fs
+      {extent : ℕ} {old new : List ℕ} {before after : ℕ} {fs : List Field} (es : List Entry) → extent ≤ longestSheet → length es ≡ before → Covers old es →
+      Claims extent old new before after fs → Takes extent mostFields es fs
   takes-claims es h n c (Claims.none a b) = Takes.none
-  takes-claims {sheet} {old} es h n c (Claims.one {f = f} a b d) =
-      Takes.add {es = es} (omega arith) (sheet-is sheet f (record { short = h; inside = d .inside })) (covers-apart old (entryOf f) c (d .free)) Takes.none
+  takes-claims {extent} {old} es h n c (Claims.one {f = f} a b d) =
+      Takes.add {es = es} (omega arith) (sheet-is extent f (record { short = h; inside = d .inside })) (covers-apart old (entryOf f) c (d .free)) Takes.none
 
   claims-count :
-      {sheet : ℕ} {old new : List ℕ} {before after : ℕ} {fs : List Field} (es : List Entry) → length es ≡ before → Claims sheet old new before after fs → length (put es fs) ≡ after
+      {extent : ℕ} {old new : List ℕ} {before after : ℕ} {fs : List Field} (es : List Entry) → length es ≡ before → Claims extent old new before after fs → length (put es fs) ≡ after
   claims-count es n (Claims.none a b) = rw append-nil (omega arith)
   claims-count es n (Claims.one {f = f} a b d) = omega (arith, length-append es (entryOf f ∷ []))
 
-  claims-cover : {sheet : ℕ} {old new : List ℕ} {before after : ℕ} {fs : List Field} (es : List Entry) → Covers old es → Claims sheet old new before after fs → Covers new (put es fs)
+  claims-cover : {extent : ℕ} {old new : List ℕ} {before after : ℕ} {fs : List Field} (es : List Entry) → Covers old es → Claims extent old new before after fs → Covers new (put es fs)
   claims-cover es c (Claims.none a b) = rw (append-nil, a) c
   claims-cover {old = old} {new = new} es c (Claims.one {f = f} a b d) = covers-add new (entryOf f) (covers-kept old new (d .kept) c) (d .marked)
 
   -- an option
   pub option-passes :
-      {sheet p end from : ℕ} {v : Tally} {old new : List ℕ} (sure : Bool) → Component im p end (optionAt im p ∷ []) → from ≡ wordAt im (p + 4) → v .fields < mostFields → Claimed sheet old new from 1 →
-      Passes im sheet p v (record { sure = sure; at = end; lines = v .lines; fields = v .fields + 1 }) old new
+      {extent p end from : ℕ} {v : Tally} {old new : List ℕ} (sure : Bool) → Component im p end (optionAt im p ∷ []) → from ≡ wordAt im (p + 4) → v .fields < mostFields → Claimed extent old new from 1 →
+      Passes im extent p v (record { sure = sure; at = end; lines = v .lines; fields = v .fields + 1 }) old new
   unfolding profileOf
   option-passes {p = p} sure c e n k = record { fields = optionAt im p ∷ []; component = c; lines = refl; claims = Claims.one n refl (rw e at k) }
 
   component-stands :
-      {sheet : ℕ} {v w : Tally} {old new : List ℕ} (p : ℕ) (s : State) → sheet ≤ longestSheet → Aligned im 0 (v .at) p → Passes im sheet p v w old new → AsFar v old s →
-      AsFar w new (onComponent im sheet mostFields p s)
-  component-stands {sheet} {v} {w} {old} {new} p s h a q t =
+      {extent : ℕ} {v w : Tally} {old new : List ℕ} (p : ℕ) (s : State) → extent ≤ longestSheet → Aligned im 0 (v .at) p → Passes im extent p v w old new → AsFar v old s →
+      AsFar w new (onComponent im extent mostFields p s)
+  component-stands {extent} {v} {w} {old} {new} p s h a q t =
       let es : List Entry = s .fields in
       let g = takes-claims es h (t .count) (t .covers) (q .claims) in
-      stands-at (onComponent im sheet mostFields p s) (w .at) (v .lines) (put es (q .fields))
-      (ap (onComponent im sheet mostFields p) (t .is) ∙ component-goes im A sheet mostFields p (w .at) (v .at) (v .lines) es (q .fields) (q .component) a g)
+      stands-at (onComponent im extent mostFields p s) (w .at) (v .lines) (put es (q .fields))
+      (ap (onComponent im extent mostFields p) (t .is) ∙ component-goes im A extent mostFields p (w .at) (v .at) (v .lines) es (q .fields) (q .component) a g)
       refl (sym (q .lines)) (claims-count es (t .count) (q .claims)) (claims-cover es (t .covers) (q .claims))
 
   -- padding before a place, as the grammar has it
@@ -83,10 +83,10 @@ module _ (im : List ℕ) where
 
   -- ---- the components of a line: those that are left, done to a state that has come as far, are the whole
 
-  pub going-start : (sheet : ℕ) (u : Tally) (m : List ℕ) → AmongParts im sheet u u m m
-  going-start sheet u m = record { go = λ s h t. record { here = s; fuel = length im + 1; stands = t; rest = refl; enough = omega arith } }
+  pub going-start : (extent : ℕ) (u : Tally) (m : List ℕ) → AmongParts im extent u u m m
+  going-start extent u m = record { go = λ s h t. record { here = s; fuel = length im + 1; stands = t; rest = refl; enough = omega arith } }
 
-  module _ {sheet : ℕ} {v w : Tally} {mid new : List ℕ} (a : Aligned im 0 (v .at) (evenFrom (v .at))) (q : Passes im sheet (evenFrom (v .at)) v w mid new) where
+  module _ {extent : ℕ} {v w : Tally} {mid new : List ℕ} (a : Aligned im 0 (v .at) (evenFrom (v .at))) (q : Passes im extent (evenFrom (v .at)) v w mid new) where
     abbrev p : ℕ
     p = evenFrom (v .at)
 
@@ -110,41 +110,41 @@ module _ (im : List ℕ) where
     inside = omega (arith, A .component-reads p reads-none .after, A .component-reads p reads-none .inside)
 
     -- one component, and then the others
-    more-go : (first : ℕ) (s : State) → sheet ≤ longestSheet → lastBit im p ≡ 0 → PartsLeft im sheet first s v mid → PartsLeft im sheet first s w new
+    more-go : (first : ℕ) (s : State) → extent ≤ longestSheet → lastBit im p ≡ 0 → PartsLeft im extent first s v mid → PartsLeft im extent first s w new
     unfolding componentsFrom onComponents
     more-go first s h z g = by (g .fuel) refl
       where
-        by : (k : ℕ) → g .fuel ≡ k → PartsLeft im sheet first s w new
+        by : (k : ℕ) → g .fuel ≡ k → PartsLeft im extent first s w new
         by zero e = absurd (omega (arith, g .enough, inside))
         by (suc k) e =
             let t = component-stands p (g .here) h a q (g .stands) in
             record {
-              here = onComponent im sheet mostFields p (g .here);
+              here = onComponent im extent mostFields p (g .here);
               fuel = k;
               stands = t;
               rest =
                   g .rest
                   ∙ rw (e, if-false [] (componentsFrom im k (componentAt im p .next)) (last-is (componentAt im p .last) refl .0 z), next-is)
-                  (stands-then (onComponents im sheet mostFields (componentsFrom im k (evenFrom (w .at))) (onComponent im sheet mostFields p (g .here))) t);
+                  (stands-then (onComponents im extent mostFields (componentsFrom im k (evenFrom (w .at))) (onComponent im extent mostFields p (g .here))) t);
               enough = omega (arith, g .enough, onward);
             }
 
     -- the last one
-    last-go : (first : ℕ) (s : State) → sheet ≤ longestSheet → lastBit im p ≡ 1 → PartsLeft im sheet first s v mid →
-        AsFar w new (onComponents im sheet mostFields (componentsFrom im (length im + 1) first) s)
+    last-go : (first : ℕ) (s : State) → extent ≤ longestSheet → lastBit im p ≡ 1 → PartsLeft im extent first s v mid →
+        AsFar w new (onComponents im extent mostFields (componentsFrom im (length im + 1) first) s)
     unfolding componentsFrom onComponents
     last-go first s h z g = by (g .fuel) refl
       where
-        by : (k : ℕ) → g .fuel ≡ k → AsFar w new (onComponents im sheet mostFields (componentsFrom im (length im + 1) first) s)
+        by : (k : ℕ) → g .fuel ≡ k → AsFar w new (onComponents im extent mostFields (componentsFrom im (length im + 1) first) s)
         by zero e = absurd (omega (arith, g .enough, inside))
         by (suc k) e =
             let t = component-stands p (g .here) h a q (g .stands) in
-            rw (g .rest, e, if-true [] (componentsFrom im k (componentAt im p .next)) (last-is (componentAt im p .last) refl .1 z), stands-then (onComponent im sheet mostFields p (g .here)) t) t
+            rw (g .rest, e, if-true [] (componentsFrom im k (componentAt im p .next)) (last-is (componentAt im p .last) refl .1 z), stands-then (onComponent im extent mostFields p (g .here)) t) t
 
-    pub going-more : {u : Tally} {old : List ℕ} → lastBit im p ≡ 0 → AmongParts im sheet u v old mid → AmongParts im sheet u w old new
+    pub going-more : {u : Tally} {old : List ℕ} → lastBit im p ≡ 0 → AmongParts im extent u v old mid → AmongParts im extent u w old new
     going-more {u} z g = record { go = λ s h t. more-go (evenFrom (u .at)) s h z (g .go s h t) }
 
     pub going-last :
-        {u : Tally} {old : List ℕ} → lastBit im p ≡ 1 → AmongParts im sheet u v old mid →
-        Reaches sheet (onComponents im sheet mostFields (componentsFrom im (length im + 1) (evenFrom (u .at)))) u w old new
+        {u : Tally} {old : List ℕ} → lastBit im p ≡ 1 → AmongParts im extent u v old mid →
+        Reaches extent (onComponents im extent mostFields (componentsFrom im (length im + 1) (evenFrom (u .at)))) u w old new
     going-last {u} z g = record { reach = λ s h t. last-go (evenFrom (u .at)) s h z (g .go s h t) }

@@ -26,22 +26,22 @@ use Rattle.quick.proofs.Accepting.{stands-then, stands-at}
 abbrev pub returned : Tally → Tally → Tally
 returned body t = record { sure = t .sure; at = body .at; lines = t .lines; fields = t .fields }
 
-module _ (im : List ℕ) (sheet : ℕ) where
+module _ (im : List ℕ) (extent : ℕ) where
   abbrev A : Agree im
   A = agree im
 
   abbrev pub parts : ℕ → State → State
-  parts first = onComponents im sheet mostFields (componentsFrom im (length im + 1) first)
+  parts first = onComponents im extent mostFields (componentsFrom im (length im + 1) first)
 
   abbrev pub table : ℕ → ℕ → State → State
-  table left t = onTable im sheet mostFields left t
+  table left t = onTable im extent mostFields left t
 
   abbrev pub line : ℕ → ℕ → ℕ → ℕ → State → State
-  line below n before p = onLine im sheet mostFields (onTable im sheet mostFields below) n before p
+  line below n before p = onLine im extent mostFields (onTable im extent mostFields below) n before p
 
   -- ---- a line
 
-  module _ {n before p end : ℕ} {w b : Tally} {old mid : List ℕ} (few : n < mostLinesOfTable) (q : Placed im n before p w end) (c : Reaches sheet (parts (evenFrom end)) (headed w end) b old mid) where
+  module _ {n before p end : ℕ} {w b : Tally} {old mid : List ℕ} (few : n < mostLinesOfTable) (q : Placed im n before p w end) (c : Reaches extent (parts (evenFrom end)) (headed w end) b old mid) where
     pub reads : headAt im p .refusal ≡ 0
     reads = A .head-is (q .head) .refusal
 
@@ -51,17 +51,17 @@ module _ (im : List ℕ) (sheet : ℕ) where
     first-component : headAt im p .component ≡ evenFrom end
     first-component = known .component ∙ ap evenFrom (A .head-is (q .head) .ends)
 
-    module _ (s : State) (h : sheet ≤ longestSheet) (t : AsFar w old s) (submenu : ℕ → State → State) where
+    module _ (s : State) (h : extent ≤ longestSheet) (t : AsFar w old s) (submenu : ℕ → State → State) where
       abbrev x : State
-      x = onHead im sheet mostFields n before p s
+      x = onHead im extent mostFields n before p s
 
       abbrev y : State
-      y = onComponents im sheet mostFields (componentsOf im p) x
+      y = onComponents im extent mostFields (componentsOf im p) x
 
       head-stands : AsFar (headed w end) old x
       head-stands =
           stands-at x end (w .lines + 1) (s .fields)
-          (ap (onHead im sheet mostFields n before p) (t .is) ∙ head-goes im A sheet mostFields n before p end (w .at) (w .lines) (s .fields) (q .head) (q .aligned) few (q .room))
+          (ap (onHead im extent mostFields n before p) (t .is) ∙ head-goes im A extent mostFields n before p end (w .at) (w .lines) (s .fields) (q .head) (q .aligned) few (q .room))
           refl refl (t .count) (t .covers)
 
       body-stands : AsFar b mid y
@@ -69,26 +69,26 @@ module _ (im : List ℕ) (sheet : ℕ) where
       body-stands = rw first-component (c .reach x h head-stands)
 
       -- what is left is the submenu
-      line-is : onLine im sheet mostFields submenu n before p s ≡ onSubmenu im sheet mostFields submenu (headAt im p) y
+      line-is : onLine im extent mostFields submenu n before p s ≡ onSubmenu im extent mostFields submenu (headAt im p) y
       unfolding onLine onBody
       line-is = stands-then _ head-stands ∙ stands-then _ body-stands
 
-    pub plain-line : (below : ℕ) → hasSubmenu im p ≡ 0 → Reaches sheet (line below n before p) w b old mid
+    pub plain-line : (below : ℕ) → hasSubmenu im p ≡ 0 → Reaches extent (line below n before p) w b old mid
     unfolding onSubmenu
     plain-line below z = record {
       reach = λ s h t.
-          rw (line-is s h t (onTable im sheet mostFields below) ∙ if-false _ _ (plain-marked im A known z)) (body-stands s h t (onTable im sheet mostFields below));
+          rw (line-is s h t (onTable im extent mostFields below) ∙ if-false _ _ (plain-marked im A known z)) (body-stands s h t (onTable im extent mostFields below));
     }
 
     pub deep-line :
-        (below : ℕ) {r : Tally} {new : List ℕ} → hasSubmenu im p ≡ 1 → Reaches sheet (table below (submenuTable im p)) b r mid new → Reaches sheet (line below n before p) w (returned b r) old new
+        (below : ℕ) {r : Tally} {new : List ℕ} → hasSubmenu im p ≡ 1 → Reaches extent (table below (submenuTable im p)) b r mid new → Reaches extent (line below n before p) w (returned b r) old new
     unfolding onSubmenu if_then_else_
     deep-line below {r} {new} z d = record {
       reach = λ s h t.
-          let u = body-stands s h t (onTable im sheet mostFields below) in
-          let v = d .reach (y s h t (onTable im sheet mostFields below)) h u in
-          stands-at _ (b .at) (r .lines) (onTable im sheet mostFields below (submenuTable im p) (y s h t (onTable im sheet mostFields below)) .fields)
-          (line-is s h t (onTable im sheet mostFields below) ∙ if-true _ _ (submenu-marked im A known z)
+          let u = body-stands s h t (onTable im extent mostFields below) in
+          let v = d .reach (y s h t (onTable im extent mostFields below)) h u in
+          stands-at _ (b .at) (r .lines) (onTable im extent mostFields below (submenuTable im p) (y s h t (onTable im extent mostFields below)) .fields)
+          (line-is s h t (onTable im extent mostFields below) ∙ if-true _ _ (submenu-marked im A known z)
           ∙ rw (known .table, ap (λ (o : State). o .progress) (v .is), ap (λ (o : State). o .progress .at) (u .is)) refl)
           refl refl (v .count) (v .covers);
     }
@@ -97,19 +97,19 @@ module _ (im : List ℕ) (sheet : ℕ) where
 
   module _ (below first : ℕ) where
     abbrev pub lines : ℕ → ℕ → List ℕ → State → State
-    lines n before ps = onLines im sheet mostFields (onTable im sheet mostFields below) n before ps
+    lines n before ps = onLines im extent mostFields (onTable im extent mostFields below) n before ps
 
-    pub going-start : (u : Tally) (m : List ℕ) → AmongLines im sheet below first u m 0 0 first u m
+    pub going-start : (u : Tally) (m : List ℕ) → AmongLines im extent below first u m 0 0 first u m
     going-start u m = record { go = λ s h t. record { here = s; stands = t; rest = refl } }
 
-    module _ {u : Tally} {old : List ℕ} {n before p : ℕ} {v w : Tally} {mid new : List ℕ} (few : n < mostLinesOfTable) (z : headAt im p .refusal ≡ 0) (c : Reaches sheet (line below n before p) v w mid new) (g : AmongLines im sheet below first u old n before p v mid) where
+    module _ {u : Tally} {old : List ℕ} {n before p : ℕ} {v w : Tally} {mid new : List ℕ} (few : n < mostLinesOfTable) (z : headAt im p .refusal ≡ 0) (c : Reaches extent (line below n before p) v w mid new) (g : AmongLines im extent below first u old n before p v mid) where
       one-more : mostLinesOfTable + 1 - n ≡ suc (mostLinesOfTable - n)
       one-more = omega arith
 
       rest-of : mostLinesOfTable + 1 - (n + 1) ≡ mostLinesOfTable - n
       rest-of = omega arith
 
-      pub going-more : isLast im p ≡ 0 → AmongLines im sheet below first u old (n + 1) p (nextLine im p) w new
+      pub going-more : isLast im p ≡ 0 → AmongLines im extent below first u old (n + 1) p (nextLine im p) w new
       unfolding onLines
       going-more b = record {
         go = λ s h t.
@@ -124,7 +124,7 @@ module _ (im : List ℕ) (sheet : ℕ) where
             };
       }
 
-      pub going-last : isLast im p ≡ 1 → Reaches sheet (lines 0 0 (linesFrom im (mostLinesOfTable + 1) first)) u w old new
+      pub going-last : isLast im p ≡ 1 → Reaches extent (lines 0 0 (linesFrom im (mostLinesOfTable + 1) first)) u w old new
       unfolding onLines
       going-last b = record {
         reach = λ s h t.
@@ -137,25 +137,25 @@ module _ (im : List ℕ) (sheet : ℕ) where
 
   pub table-reaches :
       (t : ℕ) {left below : ℕ} {title : read-title.Title} {v w r : Tally} {old new : List ℕ} → left ≡ suc below → title ≡ titleAt im t → title .refusal ≡ 0 →
-      v ≡ titled w (title .end) → Reaches sheet (lines below (title .line) 0 0 (linesFrom im (mostLinesOfTable + 1) (title .line))) v r old new →
-      Reaches sheet (table left t) w r old new
+      v ≡ titled w (title .end) → Reaches extent (lines below (title .line) 0 0 (linesFrom im (mostLinesOfTable + 1) (title .line))) v r old new →
+      Reaches extent (table left t) w r old new
   unfolding onTable linesOf
   table-reaches t {left} {below} {title} {w = w} e f z b c = record {
     reach = λ s h k.
         let q : titleAt im t .refusal ≡ 0 = rw f at z in
         let o =
-        stands-at (onTitle im sheet mostFields t s) (titleAt im t .end) (w .lines) (s .fields)
-        (ap (onTitle im sheet mostFields t) (k .is) ∙ title-goes im A sheet mostFields t (w .at) (w .lines) (s .fields) q) (ap (λ (x : read-title.Title). x .end) (sym f)) refl
+        stands-at (onTitle im extent mostFields t s) (titleAt im t .end) (w .lines) (s .fields)
+        (ap (onTitle im extent mostFields t) (k .is) ∙ title-goes im A extent mostFields t (w .at) (w .lines) (s .fields) q) (ap (λ (x : read-title.Title). x .end) (sym f)) refl
         (k .count) (k .covers) in
-        rw (e, ← f, stands-then (onLines im sheet mostFields (onTable im sheet mostFields below) 0 0 (linesFrom im (mostLinesOfTable + 1) (title .line)) (onTitle im sheet mostFields t s)) o)
-        ((rw b at c) .reach (onTitle im sheet mostFields t s) h o);
+        rw (e, ← f, stands-then (onLines im extent mostFields (onTable im extent mostFields below) 0 0 (linesFrom im (mostLinesOfTable + 1) (title .line)) (onTitle im extent mostFields t s)) o)
+        ((rw b at c) .reach (onTitle im extent mostFields t s) h o);
   }
 
   -- ---- the whole image
 
   pub nothing-refused :
-      (m new : List ℕ) (r : Tally) → sheet ≤ longestSheet → prologCode im ≡ 0 →
-      Reaches sheet (table deepestTable prologBytes) (record { sure = true; at = 0; lines = 0; fields = 0 }) r m new → refusalOf im sheet ≡ 0
+      (m new : List ℕ) (r : Tally) → extent ≤ longestSheet → prologCode im ≡ 0 →
+      Reaches extent (table deepestTable prologBytes) (record { sure = true; at = 0; lines = 0; fields = 0 }) r m new → refusalOf im extent ≡ 0
   unfolding refusalOf checked walked
   nothing-refused m new r h p c =
       let t = c .reach start h (record { is = refl; count = refl; covers = Covers.none }) in

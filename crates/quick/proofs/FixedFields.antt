@@ -106,11 +106,11 @@ pub held :
     sizeOf f ≡ size → (at + 6 ≤ length im) × Held im at end size
 held im {f = f} g p b = (g .0, record { field = f; component = g .1; place = p; bytes = b })
 
-module _ (im : List ℕ) {sheet p end : ℕ} {v : Tally} (sure : Bool) (room : v .fields < mostFields) where
+module _ (im : List ℕ) {extent p end : ℕ} {v : Tally} (sure : Bool) (room : v .fields < mostFields) where
   -- a field whose bytes are claimed, and a trigger, which has none
   pub fixed-passes :
-      {from size : ℕ} {old new : List ℕ} → Held im p end size → from ≡ wordAt im (p + 4) → Claimed sheet old new from size →
-      Passes im sheet p v (record { sure = sure; at = end; lines = v .lines; fields = v .fields + 1 }) old new
+      {from size : ℕ} {old new : List ℕ} → Held im p end size → from ≡ wordAt im (p + 4) → Claimed extent old new from size →
+      Passes im extent p v (record { sure = sure; at = end; lines = v .lines; fields = v .fields + 1 }) old new
   fixed-passes h e k = record {
     fields = h .field ∷ [];
     component = h .component;
@@ -120,11 +120,11 @@ module _ (im : List ℕ) {sheet p end : ℕ} {v : Tally} (sure : Bool) (room : v
 
   pub trigger-passes :
       (marks : List ℕ) → Component im p end (triggerAt im p ∷ []) →
-      Passes im sheet p v (record { sure = sure; at = end; lines = v .lines; fields = v .fields + 1 }) marks marks
+      Passes im extent p v (record { sure = sure; at = end; lines = v .lines; fields = v .fields + 1 }) marks marks
   unfolding profileOf
   trigger-passes marks c = record {
     fields = triggerAt im p ∷ [];
     component = c;
     lines = refl;
-    claims = Claims.one room refl (claimed-none sheet marks 0 (omega arith));
+    claims = Claims.one room refl (claimed-none extent marks 0 (omega arith));
   }

@@ -92,8 +92,8 @@ has-mark k w h b = rw (shl-exact {a = 1} 1 k 64 (omega arith) (omega arith)) (ha
 -- ---- claiming byte by byte
 
 -- nothing is claimed yet
-pub claimed-none : (sheet : ℕ) (m : List ℕ) (from : ℕ) → from ≤ sheet → Claimed sheet m m from 0
-claimed-none sheet m from h = record {
+pub claimed-none : (extent : ℕ) (m : List ℕ) (from : ℕ) → from ≤ extent → Claimed extent m m from 0
+claimed-none extent m from h = record {
   inside = omega arith;
   free = λ i a b. absurd (omega arith);
   marked = λ i a b. absurd (omega arith);
@@ -101,7 +101,7 @@ claimed-none sheet m from h = record {
 }
 
 -- one byte more, which was free
-module _ (sheet : ℕ) (old new : List ℕ) (from i y : ℕ) (l : i / 64 < length new) (b : y / 2 ^ (i % 64) % 2 ≡ 1) where
+module _ (extent : ℕ) (old new : List ℕ) (from i y : ℕ) (l : i / 64 < length new) (b : y / 2 ^ (i % 64) % 2 ≡ 1) where
   abbrev next : List ℕ
   next = set new (i / 64) (bitOr (getD new (i / 64) 0) y)
 
@@ -124,7 +124,7 @@ module _ (sheet : ℕ) (old new : List ℕ) (from i y : ℕ) (l : i / 64 < lengt
       getD-other : {k : ℕ} → (k ≡ i / 64 → ⊥) → (j : ℕ) → getD new k 0 / 2 ^ (j % 64) % 2 ≡ 1 → getD next k 0 / 2 ^ (j % 64) % 2 ≡ 1
       getD-other {k} d j m = rw (getD-set-other new (i / 64) k (bitOr (getD new (i / 64) 0) y) 0 d) m
 
-  pub claimed-next : from ≤ i → i < sheet → (markAt new i ≡ 1 → ⊥) → Claimed sheet old new from (i - from) → Claimed sheet old next from ((i + 1) - from)
+  pub claimed-next : from ≤ i → i < extent → (markAt new i ≡ 1 → ⊥) → Claimed extent old new from (i - from) → Claimed extent old next from ((i + 1) - from)
   claimed-next h s z c = record { inside = omega arith; free = free; marked = marked; kept = λ j m. stays j (c .kept j m) }
     where
       free : (j : ℕ) → from ≤ j → j < from + ((i + 1) - from) → markAt old j ≡ 1 → ⊥
@@ -141,9 +141,9 @@ module _ (sheet : ℕ) (old new : List ℕ) (from i y : ℕ) (l : i / 64 < lengt
 
 -- one byte by itself
 pub claimed-one :
-    (sheet : ℕ) (m : List ℕ) (i y : ℕ) → i / 64 < length m → y / 2 ^ (i % 64) % 2 ≡ 1 → i < sheet → (markAt m i ≡ 1 → ⊥) →
-    Claimed sheet m (set m (i / 64) (bitOr (getD m (i / 64) 0) y)) i 1
-claimed-one sheet m i y l b s z =
+    (extent : ℕ) (m : List ℕ) (i y : ℕ) → i / 64 < length m → y / 2 ^ (i % 64) % 2 ≡ 1 → i < extent → (markAt m i ≡ 1 → ⊥) →
+    Claimed extent m (set m (i / 64) (bitOr (getD m (i / 64) 0) y)) i 1
+claimed-one extent m i y l b s z =
     let none : i - i ≡ 0 = omega arith in
     let one : (i + 1) - i ≡ 1 = omega arith in
-    rw one at (claimed-next sheet m m i i y l b (omega arith) s z (rw none (claimed-none sheet m i (omega arith))))
+    rw one at (claimed-next extent m m i i y l b (omega arith) s z (rw none (claimed-none extent m i (omega arith))))

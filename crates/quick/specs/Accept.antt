@@ -24,17 +24,17 @@ unfoldable pub markAt : List ℕ → ℕ → ℕ
 markAt marks i = getD marks (i / 64) 0 / 2 ^ (i % 64) % 2
 
 -- 01, rows 10 and 11: bytes that lie in the sheet and were free are marked, and what was marked stays so
-pub record Claimed (sheet : ℕ) (old new : List ℕ) (from size : ℕ) : Type 0 where
-  pub inside : from + size ≤ sheet
+pub record Claimed (extent : ℕ) (old new : List ℕ) (from size : ℕ) : Type 0 where
+  pub inside : from + size ≤ extent
   pub free : (i : ℕ) → from ≤ i → i < from + size → markAt old i ≡ 1 → ⊥
   pub marked : (i : ℕ) → from ≤ i → i < from + size → markAt new i ≡ 1
   pub kept : (i : ℕ) → markAt old i ≡ 1 → markAt new i ≡ 1
 
 -- 01, row 8: the field of a component, if it is one, is counted, 256 at most, and its bytes are marked
-pub data Claims (sheet : ℕ) (old new : List ℕ) (before after : ℕ) : List Field → Type 0 where
-  none : new ≡ old → after ≡ before → Claims sheet old new before after []
+pub data Claims (extent : ℕ) (old new : List ℕ) (before after : ℕ) : List Field → Type 0 where
+  none : new ≡ old → after ≡ before → Claims extent old new before after []
   one : {f : Field} → before < mostFields → after ≡ before + 1
-      → Claimed sheet old new (f .sheet .0) (sizeOf f) → Claims sheet old new before after (f ∷ [])
+      → Claimed extent old new (f .sheet .0) (sizeOf f) → Claims extent old new before after (f ∷ [])
 
 -- R8: the mark of the first and the pointer back, as the grammar's Head asks them
 pub record Linked (im : List ℕ) (n before p : ℕ) : Type 0 where
@@ -51,11 +51,11 @@ pub record Placed (im : List ℕ) (n before p : ℕ) (w : Tally) (end : ℕ) : T
   pub head : Head im n before p end
 
 -- a component that the grammar has, with its field counted and its bytes marked
-pub record Passes (im : List ℕ) (sheet p : ℕ) (v w : Tally) (old new : List ℕ) : Type 0 where
+pub record Passes (im : List ℕ) (extent p : ℕ) (v w : Tally) (old new : List ℕ) : Type 0 where
   pub fields : List Field
   pub component : Component im p (w .at) fields
   pub lines : w .lines ≡ v .lines
-  pub claims : Claims sheet old new (v .fields) (w .fields) fields
+  pub claims : Claims extent old new (v .fields) (w .fields) fields
 
 -- a field that the grammar has, with its place in the sheet after the call address, and so many bytes there
 pub record Held (im : List ℕ) (at end size : ℕ) : Type 0 where
@@ -80,8 +80,8 @@ pub record AsFar (w : Tally) (marks : List ℕ) (s : State) : Type 0 where
   pub covers : Covers marks (s .fields)
 
 -- a stretch of the check's walk, for a sheet of so many bytes, goes from one tally to another
-pub record Reaches (sheet : ℕ) (stretch : State → State) (v w : Tally) (old new : List ℕ) : Type 0 where
-  pub reach : (s : State) → sheet ≤ longestSheet → AsFar v old s → AsFar w new (stretch s)
+pub record Reaches (extent : ℕ) (stretch : State → State) (v w : Tally) (old new : List ℕ) : Type 0 where
+  pub reach : (s : State) → extent ≤ longestSheet → AsFar v old s → AsFar w new (stretch s)
 
 -- the tally after a title that ends at a place
 abbrev pub titled : Tally → ℕ → Tally
@@ -93,68 +93,69 @@ headed w end = record { sure = true; at = end; lines = w .lines + 1; fields = w 
 
 -- all components of a line, from the one at a place on, done to a state: they are those that are left, done
 -- to a state that has come as far as a tally
-pub record PartsLeft (im : List ℕ) (sheet first : ℕ) (s : State) (v : Tally) (m : List ℕ) : Type 0 where
+pub record PartsLeft (im : List ℕ) (extent first : ℕ) (s : State) (v : Tally) (m : List ℕ) : Type 0 where
   pub here : State
   pub fuel : ℕ
   pub stands : AsFar v m here
-  pub rest : onComponents im sheet mostFields (componentsFrom im (length im + 1) first) s
-      ≡ onComponents im sheet mostFields (componentsFrom im fuel (evenFrom (v .at))) here
+  pub rest : onComponents im extent mostFields (componentsFrom im (length im + 1) first) s
+      ≡ onComponents im extent mostFields (componentsFrom im fuel (evenFrom (v .at))) here
   pub enough : length im < v .at + fuel
 
 -- so it is from every state that has come as far as another tally
-pub record AmongParts (im : List ℕ) (sheet : ℕ) (u v : Tally) (old new : List ℕ) : Type 0 where
-  pub go : (s : State) → sheet ≤ longestSheet → AsFar u old s → PartsLeft im sheet (evenFrom (u .at)) s v new
+pub record AmongParts (im : List ℕ) (extent : ℕ) (u v : Tally) (old new : List ℕ) : Type 0 where
+  pub go : (s : State) → extent ≤ longestSheet → AsFar u old s
+      → PartsLeft im extent (evenFrom (u .at)) s v new
 
 -- the same of the lines of a table, of which n are done, the last of them at `before`, and the next one is at
 -- p
-pub record LinesLeft (im : List ℕ) (sheet below first : ℕ) (s : State) (n before p : ℕ) (v : Tally)
+pub record LinesLeft (im : List ℕ) (extent below first : ℕ) (s : State) (n before p : ℕ) (v : Tally)
     (m : List ℕ) : Type 0 where
   pub here : State
   pub stands : AsFar v m here
   pub rest :
-      onLines im sheet mostFields (onTable im sheet mostFields below) 0 0
+      onLines im extent mostFields (onTable im extent mostFields below) 0 0
       (linesFrom im (mostLinesOfTable + 1) first) s
-      ≡ onLines im sheet mostFields (onTable im sheet mostFields below) n before
+      ≡ onLines im extent mostFields (onTable im extent mostFields below) n before
       (linesFrom im (mostLinesOfTable + 1 - n) p) here
 
 -- and so it is from every state
-pub record AmongLines (im : List ℕ) (sheet below first : ℕ) (u : Tally) (old : List ℕ) (n before p : ℕ)
+pub record AmongLines (im : List ℕ) (extent below first : ℕ) (u : Tally) (old : List ℕ) (n before p : ℕ)
     (v : Tally) (new : List ℕ) : Type 0 where
-  pub go : (s : State) → sheet ≤ longestSheet → AsFar u old s
-      → LinesLeft im sheet below first s n before p v new
+  pub go : (s : State) → extent ≤ longestSheet → AsFar u old s
+      → LinesLeft im extent below first s n before p v new
 
 -- a position in a table whose walk began at a tally: the lines before its own are done, its own has a head
 -- that the grammar has, and its components are done up to the position's tally, or all
-pub record Along (im : List ℕ) (sheet below first : ℕ) (u : Tally) (old : List ℕ) (s : Position)
+pub record Along (im : List ℕ) (extent below first : ℕ) (u : Tally) (old : List ℕ) (s : Position)
     (new : List ℕ) : Type 0 where
   pub before : ℕ
   pub end : ℕ
   pub from : Tally
   pub marks : List ℕ
   pub few : s .n < mostLinesOfTable
-  pub lines : AmongLines im sheet below first u old (s .n) before (s .line) from marks
+  pub lines : AmongLines im extent below first u old (s .n) before (s .line) from marks
   pub head : Placed im (s .n) before (s .line) from end
-  pub within : s .done ≡ false → AmongParts im sheet (headed from end) (s .tally) marks new
-  pub through : s .done ≡ true → Reaches sheet
-      (onComponents im sheet mostFields (componentsFrom im (length im + 1) (evenFrom end))) (headed from end)
+  pub within : s .done ≡ false → AmongParts im extent (headed from end) (s .tally) marks new
+  pub through : s .done ≡ true → Reaches extent
+      (onComponents im extent mostFields (componentsFrom im (length im + 1) (evenFrom end))) (headed from end)
       (s .tally) marks new
 
 -- a position within a line: its components are not all passed, its head and the position itself are in the
 -- image, and there is a mark for each byte of the sheet
-pub record Within (im : List ℕ) (sheet : ℕ) (s : Position) (marks : List ℕ) : Type 0 where
+pub record Within (im : List ℕ) (extent : ℕ) (s : Position) (marks : List ℕ) : Type 0 where
   pub going : s .done ≡ false
   pub head : passwordAt im (s .line) ≤ length im
   pub inside : s .tally .at ≤ length im
-  pub marked : sheet ≤ 64 * length marks
+  pub marked : extent ≤ 64 * length marks
 
 -- from one position to another, in whatever table they are
-pub record Moves (im : List ℕ) (sheet : ℕ) (s r : Position) (old new : List ℕ) : Type 0 where
+pub record Moves (im : List ℕ) (extent : ℕ) (s r : Position) (old new : List ℕ) : Type 0 where
   pub inside : passwordAt im (r .line) ≤ length im
   pub counted : s .n ≤ r .n
   pub onward : s .tally .at ≤ r .tally .at
   pub fits : r .tally .at ≤ length im
-  pub carry : (below first : ℕ) (u : Tally) (began : List ℕ) → Along im sheet below first u began s old
-      → Along im sheet below first u began r new
+  pub carry : (below first : ℕ) (u : Tally) (began : List ℕ) → Along im extent below first u began s old
+      → Along im extent below first u began r new
 
 -- a line with a plain head after the line at a place, which has neither a submenu nor the mark of the last
 pub record Next (im : List ℕ) (n line : ℕ) (w : Tally) (s : Position) : Type 0 where
@@ -167,11 +168,12 @@ pub record Next (im : List ℕ) (n line : ℕ) (w : Tally) (s : Position) : Type
   pub tally : s .tally ≡ headed w (s .tally .at)
 
 -- with the submenu of a line, if it has one, the whole line is done
-pub record Leaves (im : List ℕ) (sheet below line : ℕ) (w r : Tally) (mid new : List ℕ) : Type 0 where
+pub record Leaves (im : List ℕ) (extent below line : ℕ) (w r : Tally) (mid new : List ℕ) : Type 0 where
   pub leave :
       {n before end : ℕ} {from : Tally} {old : List ℕ} → n < mostLinesOfTable
       → Placed im n before line from end →
-      Reaches sheet (onComponents im sheet mostFields (componentsFrom im (length im + 1) (evenFrom end)))
+      Reaches extent (onComponents im extent mostFields (componentsFrom im (length im + 1) (evenFrom end)))
       (headed from end) w old mid →
-      Reaches sheet (onLine im sheet mostFields (onTable im sheet mostFields below) n before line) from r old
+      Reaches extent (onLine im extent mostFields (onTable im extent mostFields below) n before line) from r
+      old
       new

@@ -35,10 +35,10 @@ fn doubtful(s: Position) -> Position
 
 // One component more, of any kind but an option: one that the loop has left is in doubt. It is at fault, or
 // it has one empty item and ends the image.
-fn take_other(image: &[u8], sheet: usize, s: Position, marks: &mut [u64]) -> Position
-    requires { ⌜ Within (now image) sheet s (now marks) ⌝ }
+fn take_other(image: &[u8], extent: usize, s: Position, marks: &mut [u64]) -> Position
+    requires { ⌜ Within (now image) extent s (now marks) ⌝ }
     ensures { λ r. ⌜ (r .tally .sure ≡ true
-        → Moves (now (image .entry)) sheet s r (now (marks .entry)) (now (marks .exit))
+        → Moves (now (image .entry)) extent s r (now (marks .entry)) (now (marks .exit))
         × (s .tally .at < r .tally .at)) ⌝ }
 {
     let at = s.tally.at;
@@ -46,7 +46,7 @@ fn take_other(image: &[u8], sheet: usize, s: Position, marks: &mut [u64]) -> Pos
     if image.len() <= p {
         return doubtful(s);
     }
-    let w = accept_component(image, sheet, p, s.tally, &mut *marks);
+    let w = accept_component(image, extent, p, s.tally, &mut *marks);
     Position {
         tally: w,
         n: s.n,
@@ -56,18 +56,18 @@ fn take_other(image: &[u8], sheet: usize, s: Position, marks: &mut [u64]) -> Pos
 }
 
 // From a position within a line to the end of this line, or of a later one of its table.
-fn pass_lines(image: &[u8], sheet: usize, start: Position, marks: &mut [u64]) -> Position
-    requires { ⌜ Within (now image) sheet start (now marks) ⌝ }
+fn pass_lines(image: &[u8], extent: usize, start: Position, marks: &mut [u64]) -> Position
+    requires { ⌜ Within (now image) extent start (now marks) ⌝ }
     ensures { λ r. ⌜ (r .tally .sure ≡ true → (r .done ≡ true)
-        × Moves (now (image .entry)) sheet start r (now (marks .entry)) (now (marks .exit))) ⌝ }
+        × Moves (now (image .entry)) extent start r (now (marks .entry)) (now (marks .exit))) ⌝ }
 {
     let mut s = start;
     while s.tally.at < image.len() {
-        let plain = run(image, sheet, s, &mut *marks);
+        let plain = run(image, extent, s, &mut *marks);
         if plain.done {
             return plain;
         }
-        s = take_other(image, sheet, plain, &mut *marks);
+        s = take_other(image, extent, plain, &mut *marks);
         if !s.tally.sure {
             return s;
         }
@@ -82,18 +82,25 @@ fn pass_lines(image: &[u8], sheet: usize, start: Position, marks: &mut [u64]) ->
 // for it.
 fn accept_submenu(
     image: &[u8],
-    sheet: usize,
+    extent: usize,
     below: usize,
     line: usize,
     w: Tally,
     marks: &mut [u64],
 ) -> Tally
-    requires { ⌜ (passwordAt (now image) line ≤ length (now image)) × (sheet ≤ 64 * length (now marks)) ⌝ }
-    ensures { λ r. ⌜ (r .sure ≡ true → Leaves (now (image .entry)) sheet below line w r (now (marks .entry))
+    requires { ⌜ (passwordAt (now image) line ≤ length (now image)) × (extent ≤ 64 * length (now marks)) ⌝ }
+    ensures { λ r. ⌜ (r .sure ≡ true → Leaves (now (image .entry)) extent below line w r (now (marks .entry))
         (now (marks .exit))) ⌝ }
 {
     if image[line] / 8 % 2 == 1 {
-        let t = accept_table(image, sheet, below, submenu_of(image, line), w, &mut *marks);
+        let t = accept_table(
+            image,
+            extent,
+            below,
+            submenu_of(image, line),
+            w,
+            &mut *marks,
+        );
         return Tally {
             sure: t.sure,
             at: w.at,
@@ -107,15 +114,15 @@ fn accept_submenu(
 // The table at a place; `left` levels are left, its own among them.
 fn accept_table(
     image: &[u8],
-    sheet: usize,
+    extent: usize,
     left: usize,
     table: usize,
     w: Tally,
     marks: &mut [u64],
 ) -> Tally
-    requires { ⌜ sheet ≤ 64 * length (now marks) ⌝ }
-    ensures { λ r. ⌜ (r .sure ≡ true → Reaches sheet
-        (onTable (now (image .entry)) sheet mostFields left table) w r (now (marks .entry))
+    requires { ⌜ extent ≤ 64 * length (now marks) ⌝ }
+    ensures { λ r. ⌜ (r .sure ≡ true → Reaches extent
+        (onTable (now (image .entry)) extent mostFields left table) w r (now (marks .entry))
         (now (marks .exit))) ⌝ }
 {
     let title = read_title(image, table);
@@ -136,12 +143,12 @@ fn accept_table(
             return Tally::doubt();
         }
         let head = Position::headed(v, n, p, end);
-        let s = pass_lines(image, sheet, head, &mut *marks);
+        let s = pass_lines(image, extent, head, &mut *marks);
         if !s.tally.sure {
             return s.tally;
         }
         let line = s.line;
-        v = accept_submenu(image, sheet, below, line, s.tally, &mut *marks);
+        v = accept_submenu(image, extent, below, line, s.tally, &mut *marks);
         if !v.sure {
             return v;
         }
@@ -156,14 +163,14 @@ fn accept_table(
 }
 
 // Whether nothing gives the walk doubt.
-fn is_accepted(image: &[u8], sheet: usize) -> bool
-    ensures { λ r. ⌜ (r ≡ true → refusalOf (now (image .entry)) sheet ≡ 0) ⌝ }
+fn is_accepted(image: &[u8], extent: usize) -> bool
+    ensures { λ r. ⌜ (r ≡ true → refusalOf (now (image .entry)) extent ≡ 0) ⌝ }
 {
     let code = prolog_code(image);
     if code != 0 {
         return false;
     }
-    if Image::MAX_SHEET < sheet {
+    if Image::MAX_SHEET < extent {
         return false;
     }
     let mut marks = [0u64; WORDS];
@@ -175,7 +182,7 @@ fn is_accepted(image: &[u8], sheet: usize) -> bool
     };
     let end = accept_table(
         image,
-        sheet,
+        extent,
         Image::MAX_DEPTH,
         Image::PROLOG,
         start,
@@ -185,13 +192,13 @@ fn is_accepted(image: &[u8], sheet: usize) -> bool
 }
 
 // The refusal number of an image for a sheet of so many bytes, 0 for none.
-pub fn refusal_of(image: &[u8], sheet: usize) -> u8
-    ensures { λ r. ⌜ r ≡ refusalOf (now (image .entry)) sheet ⌝ }
+pub fn refusal_of(image: &[u8], extent: usize) -> u8
+    ensures { λ r. ⌜ r ≡ refusalOf (now (image .entry)) extent ⌝ }
 {
-    let accepted = is_accepted(image, sheet);
+    let accepted = is_accepted(image, extent);
     if accepted {
         return 0;
     }
-    let c = check(image, sheet);
+    let c = check(image, extent);
     c.progress.refusal
 }

@@ -11,14 +11,14 @@ pub(crate) const WORDS: usize = Image::MAX_SHEET / 64 + 1;
 
 // Marks bytes of the sheet. If one of them is marked or is not there, some may be marked by then: the walk
 // ends there.
-pub(crate) fn claim(marks: &mut [u64], sheet: usize, from: usize, size: usize) -> bool
-    requires { ⌜ sheet ≤ 64 * length (now marks) ⌝ }
-    ensures { λ r. ⌜ (r ≡ true → Claimed sheet (now (marks .entry)) (now (marks .exit)) from size) ⌝ }
+pub(crate) fn claim(marks: &mut [u64], extent: usize, from: usize, size: usize) -> bool
+    requires { ⌜ extent ≤ 64 * length (now marks) ⌝ }
+    ensures { λ r. ⌜ (r ≡ true → Claimed extent (now (marks .entry)) (now (marks .exit)) from size) ⌝ }
 {
-    if sheet < from {
+    if extent < from {
         return false;
     }
-    if sheet - from < size {
+    if extent - from < size {
         return false;
     }
     let end = from + size;
@@ -35,12 +35,12 @@ pub(crate) fn claim(marks: &mut [u64], sheet: usize, from: usize, size: usize) -
 }
 
 // Marks one byte of the sheet; not if it is marked or is not there, and then the marks stay as they are.
-pub(crate) fn claim_byte(marks: &mut [u64], sheet: usize, at: usize) -> bool
-    requires { ⌜ sheet ≤ 64 * length (now marks) ⌝ }
-    ensures { λ r. ⌜ (r ≡ true → Claimed sheet (now (marks .entry)) (now (marks .exit)) at 1)
+pub(crate) fn claim_byte(marks: &mut [u64], extent: usize, at: usize) -> bool
+    requires { ⌜ extent ≤ 64 * length (now marks) ⌝ }
+    ensures { λ r. ⌜ (r ≡ true → Claimed extent (now (marks .entry)) (now (marks .exit)) at 1)
         × (r ≡ false → now (marks .exit) ≡ now (marks .entry)) ⌝ }
 {
-    if sheet <= at {
+    if extent <= at {
         return false;
     }
     let word = marks[at / 64];

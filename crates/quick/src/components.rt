@@ -31,14 +31,14 @@ fn string_end(image: &[u8], at: usize) -> usize
 // The component at p, which is the first even place after where the walk is.
 pub(crate) fn accept_component(
     image: &[u8],
-    sheet: usize,
+    extent: usize,
     p: usize,
     w: Tally,
     marks: &mut [u64],
 ) -> Tally
-    requires { ⌜ (p < length (now image)) × (p ≡ evenFrom (w .at)) × (sheet ≤ 64 * length (now marks)) ⌝ }
+    requires { ⌜ (p < length (now image)) × (p ≡ evenFrom (w .at)) × (extent ≤ 64 * length (now marks)) ⌝ }
     ensures { λ r. ⌜ (r .sure ≡ true → Aligned (now (image .entry)) 0 (w .at) p
-        × Passes (now (image .entry)) sheet p w r (now (marks .entry)) (now (marks .exit))) ⌝ }
+        × Passes (now (image .entry)) extent p w r (now (marks .entry)) (now (marks .exit))) ⌝ }
 {
     let zero = is_padded(image, w.at, p);
     if !zero {
@@ -53,5 +53,5 @@ pub(crate) fn accept_component(
             fields: w.fields,
         };
     }
-    accept_field(image, sheet, p, w, &mut *marks)
+    accept_field(image, extent, p, w, &mut *marks)
 }

@@ -239,56 +239,56 @@ fn date_short_end(image: &[u8], at: usize) -> usize
 }
 
 // Where a field ends in the image, 0 in doubt, and how many bytes it has in the sheet.
-struct Extent {
+struct Measure {
     end: usize,
     size: usize,
 }
 
 // A field, no option, that has bytes in the sheet.
-fn extent_of(image: &[u8], at: usize) -> Extent
+fn measure_of(image: &[u8], at: usize) -> Measure
     requires { ⌜ at < length (now image) ⌝ }
     ensures { λ r. ⌜ (0 < r .end → (at + 6 ≤ length (now (image .entry)))
         × Held (now (image .entry)) at (r .end) (r .size)) ⌝ }
 {
     let code = (image[at] % 32) as usize;
     if code <= 0x04 {
-        return Extent {
+        return Measure {
             end: byte_end(image, at, code),
             size: 1,
         };
     }
     if code <= 0x0a {
-        return Extent {
+        return Measure {
             end: word_end(image, at, code),
             size: 2,
         };
     }
     match code {
-        0x0d => Extent {
+        0x0d => Measure {
             end: counter_end(image, at),
             size: 2,
         },
-        0x0f => Extent {
+        0x0f => Measure {
             end: time_long_end(image, at),
             size: 3,
         },
-        0x10 => Extent {
+        0x10 => Measure {
             end: time_short_end(image, at),
             size: 2,
         },
-        0x11 => Extent {
+        0x11 => Measure {
             end: date_long_end(image, at),
             size: 4,
         },
-        0x12 => Extent {
+        0x12 => Measure {
             end: date_short_end(image, at),
             size: 3,
         },
-        0x13 => Extent {
+        0x13 => Measure {
             end: switch_end(image, at),
             size: 4,
         },
-        _ => Extent { end: 0, size: 0 },
+        _ => Measure { end: 0, size: 0 },
     }
 }
 
@@ -307,13 +307,13 @@ fn trigger_end(image: &[u8], at: usize) -> usize
 // A field, no option, if there may be one more. A trigger has no bytes in the sheet to claim.
 pub(crate) fn accept_field(
     image: &[u8],
-    sheet: usize,
+    extent: usize,
     p: usize,
     w: Tally,
     marks: &mut [u64],
 ) -> Tally
-    requires { ⌜ (p < length (now image)) × (sheet ≤ 64 * length (now marks)) ⌝ }
-    ensures { λ r. ⌜ (r .sure ≡ true → Passes (now (image .entry)) sheet p w r (now (marks .entry))
+    requires { ⌜ (p < length (now image)) × (extent ≤ 64 * length (now marks)) ⌝ }
+    ensures { λ r. ⌜ (r .sure ≡ true → Passes (now (image .entry)) extent p w r (now (marks .entry))
         (now (marks .exit))) ⌝ }
 {
     if Image::MAX_FIELDS <= w.fields {
@@ -328,11 +328,11 @@ pub(crate) fn accept_field(
             fields: w.fields + 1,
         };
     }
-    let e = extent_of(image, p);
+    let e = measure_of(image, p);
     if e.end == 0 {
         return Tally::doubt();
     }
-    let sure = claim(&mut *marks, sheet, word_in(image, p + 4), e.size);
+    let sure = claim(&mut *marks, extent, word_in(image, p + 4), e.size);
     Tally {
         sure,
         at: e.end,

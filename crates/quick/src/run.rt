@@ -19,10 +19,10 @@ use crate::texts::option_end;
 use cmf::image::Image;
 
 // The option at p with its byte in the sheet; in doubt no byte is marked.
-fn take_option(image: &[u8], sheet: usize, p: usize, w: Tally, marks: &mut [u64]) -> Tally
+fn take_option(image: &[u8], extent: usize, p: usize, w: Tally, marks: &mut [u64]) -> Tally
     requires { ⌜ (p + 10 < length (now image)) × (byteAt (now image) p % 32 ≡ 0x14)
-        × (sheet ≤ 64 * length (now marks)) ⌝ }
-    ensures { λ r. ⌜ (r .sure ≡ true → Passes (now (image .entry)) sheet p w r (now (marks .entry))
+        × (extent ≤ 64 * length (now marks)) ⌝ }
+    ensures { λ r. ⌜ (r .sure ≡ true → Passes (now (image .entry)) extent p w r (now (marks .entry))
         (now (marks .exit))) × (r .sure ≡ false → now (marks .exit) ≡ now (marks .entry)) ⌝ }
 {
     if Image::MAX_FIELDS <= w.fields {
@@ -32,7 +32,7 @@ fn take_option(image: &[u8], sheet: usize, p: usize, w: Tally, marks: &mut [u64]
     if end == 0 {
         return Tally::doubt();
     }
-    let sure = claim_byte(&mut *marks, sheet, word_in(image, p + 4));
+    let sure = claim_byte(&mut *marks, extent, word_in(image, p + 4));
     Tally {
         sure,
         at: end,
@@ -42,10 +42,10 @@ fn take_option(image: &[u8], sheet: usize, p: usize, w: Tally, marks: &mut [u64]
 }
 
 // The component at p with its tag, if it is a constant string or an option without fault; no other is taken.
-fn take_plain(image: &[u8], sheet: usize, p: usize, tag: u8, w: Tally, marks: &mut [u64]) -> Tally
+fn take_plain(image: &[u8], extent: usize, p: usize, tag: u8, w: Tally, marks: &mut [u64]) -> Tally
     requires { ⌜ (p + 10 < length (now image)) × (tag ≡ byteAt (now image) p)
-        × (sheet ≤ 64 * length (now marks)) ⌝ }
-    ensures { λ r. ⌜ (r .sure ≡ true → Passes (now (image .entry)) sheet p w r (now (marks .entry))
+        × (extent ≤ 64 * length (now marks)) ⌝ }
+    ensures { λ r. ⌜ (r .sure ≡ true → Passes (now (image .entry)) extent p w r (now (marks .entry))
         (now (marks .exit))) × (r .sure ≡ false → now (marks .exit) ≡ now (marks .entry)) ⌝ }
 {
     if tag % 64 == 0x15 {
@@ -58,7 +58,7 @@ fn take_plain(image: &[u8], sheet: usize, p: usize, tag: u8, w: Tally, marks: &m
         };
     }
     if tag % 32 == 0x14 {
-        return take_option(image, sheet, p, w, &mut *marks);
+        return take_option(image, extent, p, w, &mut *marks);
     }
     Tally::doubt()
 }
@@ -119,9 +119,9 @@ fn next_plain(image: &[u8], n: usize, line: usize, w: Tally) -> Position
 
 // From a position within a line as far as all is plain and eleven bytes of a component, the fewest that an
 // option has, and one before them are in the image.
-pub(crate) fn run(image: &[u8], sheet: usize, start: Position, marks: &mut [u64]) -> Position
-    requires { ⌜ Within (now image) sheet start (now marks) ⌝ }
-    ensures { λ r. ⌜ Moves (now (image .entry)) sheet start r (now (marks .entry)) (now (marks .exit)) ⌝ }
+pub(crate) fn run(image: &[u8], extent: usize, start: Position, marks: &mut [u64]) -> Position
+    requires { ⌜ Within (now image) extent start (now marks) ⌝ }
+    ensures { λ r. ⌜ Moves (now (image .entry)) extent start r (now (marks .entry)) (now (marks .exit)) ⌝ }
 {
     let mut s = start;
     while s.tally.at + 11 < image.len() {
@@ -132,7 +132,7 @@ pub(crate) fn run(image: &[u8], sheet: usize, start: Position, marks: &mut [u64]
         }
         let p = at + at % 2;
         let tag = image[p];
-        let w = take_plain(image, sheet, p, tag, s.tally, &mut *marks);
+        let w = take_plain(image, extent, p, tag, s.tally, &mut *marks);
         if !w.sure {
             return s;
         }

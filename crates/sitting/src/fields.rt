@@ -98,11 +98,11 @@ fn print_end(at: usize) {
 
 // What the check knows of a fault that the walk found: how many line heads and fields are without fault, and
 // where the last thing before the fault ended.
-pub fn print_reach(image: &[u8], sheet: usize, refusal: u8) {
+pub fn print_reach(image: &[u8], extent: usize, refusal: u8) {
     if refusal < WALK {
         return;
     }
-    let c = check(image, sheet);
+    let c = check(image, extent);
     let fields = c.progress.fields;
     let index = c.index;
     say(b"good before the fault: line heads ");

@@ -117,9 +117,9 @@ fn take_line(image: &[u8], n: usize, before: usize, p: usize, h: Head, w: Progre
 }
 
 // A field: counted, its settings, its bytes in the sheet.
-fn take_field(sheet: usize, c: Component, w: Progress, index: &mut [usize]) -> Progress
+fn take_field(extent: usize, c: Component, w: Progress, index: &mut [usize]) -> Progress
     ensures { λ r. ⌜ seen r (now (index .exit))
-        ≡ takeField sheet (capacity (now (index .entry))) c (seen w (now (index .entry))) ⌝ }
+        ≡ takeField extent (capacity (now (index .entry))) c (seen w (now (index .entry))) ⌝ }
     ensures { λ r. ⌜ StaysClean (w .fields) (now (index .entry)) (r .fields) (now (index .exit)) ⌝ }
 {
     let k = w.fields;
@@ -131,7 +131,7 @@ fn take_field(sheet: usize, c: Component, w: Progress, index: &mut [usize]) -> P
     if c.refusal != 0 {
         return w.refused(c.refusal);
     }
-    let inside = entry.in_sheet(sheet);
+    let inside = entry.in_sheet(extent);
     if !inside {
         return w.refused(10);
     }
@@ -151,14 +151,14 @@ fn take_field(sheet: usize, c: Component, w: Progress, index: &mut [usize]) -> P
 // A component at p.
 fn take_component(
     image: &[u8],
-    sheet: usize,
+    extent: usize,
     p: usize,
     c: Component,
     w: Progress,
     index: &mut [usize],
 ) -> Progress
     ensures { λ r. ⌜ seen r (now (index .exit))
-        ≡ takeComponent (now (image .entry)) sheet (capacity (now (index .entry))) p c
+        ≡ takeComponent (now (image .entry)) extent (capacity (now (index .entry))) p c
         (seen w (now (index .entry))) ⌝ }
     ensures { λ r. ⌜ StaysClean (w .fields) (now (index .entry)) (r .fields) (now (index .exit)) ⌝ }
 {
@@ -170,7 +170,7 @@ fn take_component(
         return w.refused(7);
     }
     if c.fielded {
-        return take_field(sheet, c, w, index);
+        return take_field(extent, c, w, index);
     }
     if c.refusal != 0 {
         return w.refused(c.refusal);
@@ -181,13 +181,13 @@ fn take_component(
 // The components of a line, the first of them at p.
 fn check_components(
     image: &[u8],
-    sheet: usize,
+    extent: usize,
     p: usize,
     w: Progress,
     index: &mut [usize],
 ) -> Progress
     ensures { λ r. ⌜ seen r (now (index .exit))
-        ≡ onComponents (now (image .entry)) sheet (capacity (now (index .entry)))
+        ≡ onComponents (now (image .entry)) extent (capacity (now (index .entry)))
         (componentsFrom (now (image .entry)) (length (now (image .entry)) + 1) p)
         (seen w (now (index .entry))) ⌝ }
     ensures { λ r. ⌜ StaysClean (w .fields) (now (index .entry)) (r .fields) (now (index .exit)) ⌝ }
@@ -197,7 +197,7 @@ fn check_components(
     let mut left = image.len() + 1;
     while 0 < left {
         let component = read_component(image, c);
-        v = take_component(image, sheet, c, component, v, &mut *index);
+        v = take_component(image, extent, c, component, v, &mut *index);
         if v.refusal != 0 {
             return v;
         }
@@ -213,7 +213,7 @@ fn check_components(
 // A line at p, with n lines of its table before it; `below` levels are left for its submenu.
 fn check_line(
     image: &[u8],
-    sheet: usize,
+    extent: usize,
     below: usize,
     n: usize,
     before: usize,
@@ -222,8 +222,8 @@ fn check_line(
     index: &mut [usize],
 ) -> Progress
     ensures { λ r. ⌜ seen r (now (index .exit))
-        ≡ onLine (now (image .entry)) sheet (capacity (now (index .entry)))
-        (onTable (now (image .entry)) sheet (capacity (now (index .entry))) below) n before p
+        ≡ onLine (now (image .entry)) extent (capacity (now (index .entry)))
+        (onTable (now (image .entry)) extent (capacity (now (index .entry))) below) n before p
         (seen w (now (index .entry))) ⌝ }
     ensures { λ r. ⌜ StaysClean (w .fields) (now (index .entry)) (r .fields) (now (index .exit)) ⌝ }
 {
@@ -232,12 +232,12 @@ fn check_line(
     if v.refusal != 0 {
         return v;
     }
-    let q = check_components(image, sheet, h.component, v, &mut *index);
+    let q = check_components(image, extent, h.component, v, &mut *index);
     if q.refusal != 0 {
         return q;
     }
     if h.submenu {
-        let t = check_table(image, sheet, below, h.table, q, &mut *index);
+        let t = check_table(image, extent, below, h.table, q, &mut *index);
         return t.past_line(q.at);
     }
     q
@@ -246,14 +246,14 @@ fn check_line(
 // The table at a place; `left` levels are left, its own among them.
 fn check_table(
     image: &[u8],
-    sheet: usize,
+    extent: usize,
     left: usize,
     at: usize,
     w: Progress,
     index: &mut [usize],
 ) -> Progress
     ensures { λ r. ⌜ seen r (now (index .exit))
-        ≡ onTable (now (image .entry)) sheet (capacity (now (index .entry))) left at
+        ≡ onTable (now (image .entry)) extent (capacity (now (index .entry))) left at
         (seen w (now (index .entry))) ⌝ }
     ensures { λ r. ⌜ StaysClean (w .fields) (now (index .entry)) (r .fields) (now (index .exit)) ⌝ }
 {
@@ -270,7 +270,7 @@ fn check_table(
     let mut before = 0;
     let mut p = t.line;
     while n < Image::MAX_TABLE_LINES + 1 {
-        v = check_line(image, sheet, below, n, before, p, v, &mut *index);
+        v = check_line(image, extent, below, n, before, p, v, &mut *index);
         if v.refusal != 0 {
             return v;
         }
@@ -336,9 +336,9 @@ fn has_pair(image: &[u8], at: usize, low: u8, high: u8) -> bool
 
 // The refusal number of an image for a sheet of so many bytes, 0 for none, and the fields that were reached,
 // with zeros after them.
-pub fn check(image: &[u8], sheet: usize) -> Checked
-    ensures { λ r. ⌜ r .progress ≡ checked (now (image .entry)) sheet .progress ⌝ }
-    ensures { λ r. ⌜ r .index ≡ indexOf (checked (now (image .entry)) sheet .fields) ⌝ }
+pub fn check(image: &[u8], extent: usize) -> Checked
+    ensures { λ r. ⌜ r .progress ≡ checked (now (image .entry)) extent .progress ⌝ }
+    ensures { λ r. ⌜ r .index ≡ indexOf (checked (now (image .entry)) extent .fields) ⌝ }
 {
     let mut index = [0usize; INDEX];
     let start = Progress {
@@ -356,7 +356,7 @@ pub fn check(image: &[u8], sheet: usize) -> Checked
     }
     let progress = check_table(
         image,
-        sheet,
+        extent,
         Image::MAX_DEPTH,
         Image::PROLOG,
         start,

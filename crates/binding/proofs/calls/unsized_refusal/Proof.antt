@@ -14,7 +14,7 @@ shape-fits-requires : tie.Need-shape-fits-requires
 shape-fits-requires c κs = search needs
 
 returns : tie.Need-returns
-returns c = unsized-shape (c .before .before .before .args .image .now) (c .before .before .before .args .sheet) (c .before .before .before .args .columns) (c .before .before .before .args .lines) (via (c .before .shape-fits .ensures) (not-true _ (c .if1 .taken)))
+returns c = unsized-shape (c .before .before .before .args .image .now) (c .before .before .before .args .extent) (c .before .before .before .args .columns) (c .before .before .before .args .lines) (via (c .before .shape-fits .ensures) (not-true _ (c .if1 .taken)))
 
 refusal-of-requires : tie.Need-refusal-of-requires
 refusal-of-requires c κs = search needs
@@ -26,7 +26,7 @@ session-refusal-requires : tie.Need-session-refusal-requires
 session-refusal-requires c κs = search needs
 
 returns-2 : tie.Need-returns-2
-returns-2 c = unsized-image (c .before .before .before .before .before .before .args .image .now) (c .before .before .before .before .before .before .args .sheet) (c .before .before .before .before .before .before .args .columns) (c .before .before .before .before .before .before .args .lines) _ (via (c .before .before .before .before .shape-fits .ensures) (not-false _ (c .before .before .before .if1 .left))) (session-from _ _ _ _ _ (c .before .before .refusal-of .ensures) (c .session-refusal .ensures) ∙ ap (λ (s : Session). sessionRefusal (c .before .before .before .before .before .before .args .image .now) (c .before .before .before .before .before .before .args .sheet) s) (c .before .closed .ensures))
+returns-2 c = unsized-image (c .before .before .before .before .before .before .args .image .now) (c .before .before .before .before .before .before .args .extent) (c .before .before .before .before .before .before .args .columns) (c .before .before .before .before .before .before .args .lines) _ (via (c .before .before .before .before .shape-fits .ensures) (not-false _ (c .before .before .before .if1 .left))) (session-from _ _ _ _ _ (c .before .before .refusal-of .ensures) (c .session-refusal .ensures) ∙ ap (λ (s : Session). sessionRefusal (c .before .before .before .before .before .before .args .image .now) (c .before .before .before .before .before .before .args .extent) s) (c .before .closed .ensures))
 
 pub unsized-refusal-spec : {M : Type 1} → statement M
 unsized-refusal-spec =

@@ -111,10 +111,10 @@ accept-submenu-returns-2 : (t : ℕ) → accept-submenu-lts.Need-returns-2 (
 accept-submenu-returns-2 t c = λ _. leaves-plain _ _ (omega (arith, c .if1 .left))
 
 abbrev accept-table-Inv-loop : accept-table-lts.InvT-loop
-accept-table-Inv-loop image sheet left table marks₀ below v₀ n₀ before₀ p₀ marks v n before p = ((AmongLines image sheet below p₀ v₀ marks₀ n before p v marks) × (length marks ≡ length marks₀)) × (before ≤ p)
+accept-table-Inv-loop image extent left table marks₀ below v₀ n₀ before₀ p₀ marks v n before p = ((AmongLines image extent below p₀ v₀ marks₀ n before p v marks) × (length marks ≡ length marks₀)) × (before ≤ p)
 
 abbrev accept-table-μ-loop : accept-table-lts.MeasureT-loop
-accept-table-μ-loop image sheet left table marks₀ below v₀ n₀ before₀ p₀ marks v n before p = 99 - n
+accept-table-μ-loop image extent left table marks₀ below v₀ n₀ before₀ p₀ marks v n before p = 99 - n
 
 accept-table-read-title-requires : (t : ℕ) → accept-table-lts.Need-read-title-requires (
   read-title-reads.Asked,
@@ -394,7 +394,7 @@ accept-table-pass-lines-requires : (t : ℕ) → accept-table-lts.Need-pass-line
   next-of-reads.Asked,
   next-of-reads.Learnt,
 ) (accept-table-at t) accept-table.Post accept-table-Inv-loop accept-table-μ-loop
-accept-table-pass-lines-requires t c κs = rw (c .before .headed .ensures) (record { going = refl; head = c .before .before .before .accept-head .ensures (omega arith) .head .inside; inside = head-fits _ (c .before .before .before .before .before .before .before .before .before .before .before .before .before .args .sheet) (c .before .before .before .accept-head .ensures (omega arith) .head); marked = omega (arith, c .before .before .before .before .before .loop .inv .0 .1, c .before .before .before .before .before .before .before .before .before .before .before .before .before .pre .1) })
+accept-table-pass-lines-requires t c κs = rw (c .before .headed .ensures) (record { going = refl; head = c .before .before .before .accept-head .ensures (omega arith) .head .inside; inside = head-fits _ (c .before .before .before .before .before .before .before .before .before .before .before .before .before .args .extent) (c .before .before .before .accept-head .ensures (omega arith) .head); marked = omega (arith, c .before .before .before .before .before .loop .inv .0 .1, c .before .before .before .before .before .before .before .before .before .before .before .before .before .pre .1) })
 
 accept-table-same-length-2 : (t : ℕ) → accept-table-lts.Need-same-length-2 (
   read-title-reads.Asked,

@@ -13,10 +13,10 @@ use Rattle.quick.proofs.accept.pass_lines.Statement.{statement}
 use Rattle.quick.proofs.accept.pass_lines.Tie as tie
 
 abbrev Inv-loop : tie.InvT-loop
-Inv-loop image sheet marks₀ s₀ marks s = ((Moves image sheet s₀ s marks₀ marks) × (s .done ≡ false)) × (length marks ≡ length marks₀)
+Inv-loop image extent marks₀ s₀ marks s = ((Moves image extent s₀ s marks₀ marks) × (s .done ≡ false)) × (length marks ≡ length marks₀)
 
 abbrev μ-loop : tie.MeasureT-loop
-μ-loop image sheet marks₀ s₀ marks s = length image - s .tally .at
+μ-loop image extent marks₀ s₀ marks s = length image - s .tally .at
 
 loop-holds : tie.Need-loop-holds Inv-loop μ-loop
 loop-holds c = ((moves-none _ _ _ _ (c .before .before .pre .head) (c .before .before .pre .inside), c .before .before .pre .going), refl)

@@ -10,10 +10,10 @@ use Rattle.quick.proofs.claim.claim.Statement.{statement}
 use Rattle.quick.proofs.claim.claim.Tie as tie
 
 abbrev Inv-loop : tie.InvT-loop
-Inv-loop marks₀ sheet from size end i₀ marks i = (((Claimed sheet marks₀ marks from (i - from)) × (from ≤ i)) × (i ≤ end)) × (length marks ≡ length marks₀)
+Inv-loop marks₀ extent from size end i₀ marks i = (((Claimed extent marks₀ marks from (i - from)) × (from ≤ i)) × (i ≤ end)) × (length marks ≡ length marks₀)
 
 abbrev μ-loop : tie.MeasureT-loop
-μ-loop marks₀ sheet from size end i₀ marks i = end - i
+μ-loop marks₀ extent from size end i₀ marks i = end - i
 
 returns : tie.Need-returns Inv-loop μ-loop
 returns c = λ e. absurd (false≢true e)

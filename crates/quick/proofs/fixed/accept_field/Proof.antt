@@ -25,8 +25,8 @@ add-t14 c = search needs
 returns-2 : tie.Need-returns-2
 returns-2 c = λ e. trigger-passes _ _ (omega arith) _ (c .before .trigger-end .ensures (ltb-true 0 _ e))
 
-extent-of-requires : tie.Need-extent-of-requires
-extent-of-requires c κs = search needs
+measure-of-requires : tie.Need-measure-of-requires
+measure-of-requires c κs = search needs
 
 doubt-requires-2 : tie.Need-doubt-requires-2
 doubt-requires-2 c κs = search needs
@@ -38,7 +38,7 @@ add-word-in : tie.Need-add-word-in
 add-word-in c = search needs
 
 word-in-requires : tie.Need-word-in-requires
-word-in-requires c κs = omega (arith, c .before .before .before .extent-of .ensures (omega arith) .0)
+word-in-requires c κs = omega (arith, c .before .before .before .measure-of .ensures (omega arith) .0)
 
 claim-requires : tie.Need-claim-requires
 claim-requires c κs = search needs
@@ -50,7 +50,7 @@ same-length : tie.Need-same-length
 same-length c = search needs
 
 returns-4 : tie.Need-returns-4
-returns-4 c = λ e. fixed-passes _ _ (omega arith) (c .before .before .before .before .before .before .before .before .extent-of .ensures (omega arith) .1) (c .before .before .before .before .word-in .ensures .0) (c .before .before .before .claim .ensures e)
+returns-4 c = λ e. fixed-passes _ _ (omega arith) (c .before .before .before .before .before .before .before .before .measure-of .ensures (omega arith) .1) (c .before .before .before .before .word-in .ensures .0) (c .before .before .before .claim .ensures e)
 
 pub accept-field-spec : {M : Type 1} → statement M
 accept-field-spec =
@@ -62,7 +62,7 @@ accept-field-spec =
     trigger-end-requires
     add-t14
     returns-2
-    extent-of-requires
+    measure-of-requires
     doubt-requires-2
     returns-3
     add-word-in

@@ -12,10 +12,10 @@ use Rattle.quick.proofs.run.run.Statement.{statement}
 use Rattle.quick.proofs.run.run.Tie as tie
 
 abbrev Inv-loop : tie.InvT-loop
-Inv-loop image sheet marks₀ s₀ marks s = ((Moves image sheet s₀ s marks₀ marks) × (s .done ≡ false)) × (length marks ≡ length marks₀)
+Inv-loop image extent marks₀ s₀ marks s = ((Moves image extent s₀ s marks₀ marks) × (s .done ≡ false)) × (length marks ≡ length marks₀)
 
 abbrev μ-loop : tie.MeasureT-loop
-μ-loop image sheet marks₀ s₀ marks s = length image - s .tally .at
+μ-loop image extent marks₀ s₀ marks s = length image - s .tally .at
 
 loop-holds : tie.Need-loop-holds Inv-loop μ-loop
 loop-holds c = ((moves-none _ _ _ _ (c .before .before .pre .head) (c .before .before .pre .inside), c .before .before .pre .going), refl)
@@ -57,7 +57,7 @@ returns-3 : tie.Need-returns-3 Inv-loop μ-loop
 returns-3 c = rw (c .before .next-plain .ensures .1 (c .if5 .taken)) (moves-then _ _ (c .before .before .before .before .before .before .before .before .before .before .before .before .before .before .loop .inv .0 .0) (part-moves _ _ _ (c .before .before .before .before .before .before .before .before .before .before .before .before .before .before .loop .inv .0 .1) (c .before .before .before .before .before .before .before .before .before .before .before .before .before .before .loop .inv .0 .0 .inside) (c .before .before .before .before .before .before .before .before .before .before .before .is-padded-to-even .ensures (not-false _ (c .before .before .before .before .before .before .before .before .before .before .if2 .left))) (c .before .before .before .before .before .before .before .take-plain .ensures .0 (not-false _ (c .before .before .before .if3 .left))) true (λ e. clash refl e) (λ _. c .before .before .if4 .taken)))
 
 loop-less : tie.Need-loop-less Inv-loop μ-loop
-loop-less c = omega (arith, part-onward _ _ (c .before .before .before .before .before .before .before .before .before .before .before .before .before .before .loop .s) (c .before .before .before .before .before .before .before .before .before .before .before .before .before .before .loop .inv .0 .1) (c .before .before .before .before .before .before .before .before .before .before .before .before .before .before .loop .inv .0 .0 .inside) (c .before .before .before .before .before .before .before .before .before .before .before .is-padded-to-even .ensures (not-false _ (c .before .before .before .before .before .before .before .before .before .before .if2 .left))) (c .before .before .before .before .before .before .before .take-plain .ensures .0 (not-false _ (c .before .before .before .if3 .left))), next-moves _ (c .before .before .before .before .before .before .before .before .before .before .before .before .before .before .before .before .before .args .sheet) (c .before .before .before .before .before .before .before .before .before .before .before .before .before .before .loop .marks) (c .if5 .left) (c .before .next-plain .ensures .0 (c .if5 .left)) .onward)
+loop-less c = omega (arith, part-onward _ _ (c .before .before .before .before .before .before .before .before .before .before .before .before .before .before .loop .s) (c .before .before .before .before .before .before .before .before .before .before .before .before .before .before .loop .inv .0 .1) (c .before .before .before .before .before .before .before .before .before .before .before .before .before .before .loop .inv .0 .0 .inside) (c .before .before .before .before .before .before .before .before .before .before .before .is-padded-to-even .ensures (not-false _ (c .before .before .before .before .before .before .before .before .before .before .if2 .left))) (c .before .before .before .before .before .before .before .take-plain .ensures .0 (not-false _ (c .before .before .before .if3 .left))), next-moves _ (c .before .before .before .before .before .before .before .before .before .before .before .before .before .before .before .before .before .args .extent) (c .before .before .before .before .before .before .before .before .before .before .before .before .before .before .loop .marks) (c .if5 .left) (c .before .next-plain .ensures .0 (c .if5 .left)) .onward)
 
 loop-again : tie.Need-loop-again Inv-loop μ-loop
 loop-again c = ((moves-then _ _ (moves-then _ _ (c .before .before .before .before .before .before .before .before .before .before .before .before .before .before .loop .inv .0 .0) (part-moves _ _ _ (c .before .before .before .before .before .before .before .before .before .before .before .before .before .before .loop .inv .0 .1) (c .before .before .before .before .before .before .before .before .before .before .before .before .before .before .loop .inv .0 .0 .inside) (c .before .before .before .before .before .before .before .before .before .before .before .is-padded-to-even .ensures (not-false _ (c .before .before .before .before .before .before .before .before .before .before .if2 .left))) (c .before .before .before .before .before .before .before .take-plain .ensures .0 (not-false _ (c .before .before .before .if3 .left))) true (λ e. clash refl e) (λ _. c .before .before .if4 .taken))) (next-moves _ _ _ (c .if5 .left) (c .before .next-plain .ensures .0 (c .if5 .left))), c .if5 .left), c .before .before .before .before .before .before .before .take-plain .kept .1 .1 .1 .1 .1 .0 ∙ c .before .before .before .before .before .before .before .before .before .before .before .before .before .before .loop .inv .1)

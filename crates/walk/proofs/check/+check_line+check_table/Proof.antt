@@ -220,10 +220,10 @@ check-line-returns-4 : (t : ℕ) → check-line-lts.Need-returns-4 (
 check-line-returns-4 t c = (line-plain _ _ _ _ _ _ _ _ _ _ _ (c .before .before .before .before .before .before .before .before .before .before .read-head .ensures) (c .before .before .before .before .before .before .before .before .before .take-line .ensures) (c .before .before .before .before .before .before .before .if1 .left) _ (c .before .before .before .before .before .check-components .ensures .0) (c .before .if2 .left) (c .if3 .left), λ h. c .before .before .before .before .before .check-components .ensures .1 (clean-head _ _ _ _ _ _ _ (c .before .before .before .before .before .before .before .before .before .take-line .ensures) h))
 
 abbrev check-table-Inv-loop : check-table-lts.InvT-loop
-check-table-Inv-loop image sheet left at index₀ v₀ below n₀ before₀ p₀ index v n before p = (onLines image sheet (capacity index₀) (onTable image sheet (capacity index₀) below) 0 0 (linesFrom image 100 p₀) (seen v₀ index₀) ≡ onLines image sheet (capacity index₀) (onTable image sheet (capacity index₀) below) n before (linesFrom image (100 - n) p) (seen v index)) × (length index ≡ length index₀) × StaysClean (v₀ .fields) index₀ (v .fields) index
+check-table-Inv-loop image extent left at index₀ v₀ below n₀ before₀ p₀ index v n before p = (onLines image extent (capacity index₀) (onTable image extent (capacity index₀) below) 0 0 (linesFrom image 100 p₀) (seen v₀ index₀) ≡ onLines image extent (capacity index₀) (onTable image extent (capacity index₀) below) n before (linesFrom image (100 - n) p) (seen v index)) × (length index ≡ length index₀) × StaysClean (v₀ .fields) index₀ (v .fields) index
 
 abbrev check-table-μ-loop : check-table-lts.MeasureT-loop
-check-table-μ-loop image sheet left at index₀ v₀ below n₀ before₀ p₀ index v n before p = 100 - n
+check-table-μ-loop image extent left at index₀ v₀ below n₀ before₀ p₀ index v n before p = 100 - n
 
 check-table-read-title-requires : (t : ℕ) → check-table-lts.Need-read-title-requires (
   read-title-reads.Asked,

@@ -28,7 +28,7 @@ check-table-requires c κs = search needs
 
 returns-2 : tie.Need-returns-2
 unfolding checked walked listed indexOf numbersOf fit if_then_else_
-returns-2 c = settled (checked (c .before .before .before .before .before .before .args .image .now) (c .before .before .before .before .before .before .args .sheet)) (c .before .check-table .result) _ _ refl (c .before .check-table .kept .1 .1 .1 .1 .1 .0) (c .before .check-table .ensures .1) (simp (← c .before .before .before .before .prolog-code .ensures, eq-eqb _ _ (c .before .before .before .if1 .left)) (c .before .check-table .ensures .0))
+returns-2 c = settled (checked (c .before .before .before .before .before .before .args .image .now) (c .before .before .before .before .before .before .args .extent)) (c .before .check-table .result) _ _ refl (c .before .check-table .kept .1 .1 .1 .1 .1 .0) (c .before .check-table .ensures .1) (simp (← c .before .before .before .before .prolog-code .ensures, eq-eqb _ _ (c .before .before .before .if1 .left)) (c .before .check-table .ensures .0))
 
 pub check-spec : {M : Type 1} → statement M
 check-spec =

@@ -13,10 +13,10 @@ use Rattle.walk.proofs.check.check_components.Statement.{statement}
 use Rattle.walk.proofs.check.check_components.Tie as tie
 
 abbrev Inv-loop : tie.InvT-loop
-Inv-loop image sheet p index₀ v₀ c₀ left₀ index v c left = (onComponents image sheet (capacity index₀) (componentsFrom image (length image + 1) p) (seen v₀ index₀) ≡ onComponents image sheet (capacity index₀) (componentsFrom image left c) (seen v index)) × (length index ≡ length index₀) × StaysClean (v₀ .fields) index₀ (v .fields) index
+Inv-loop image extent p index₀ v₀ c₀ left₀ index v c left = (onComponents image extent (capacity index₀) (componentsFrom image (length image + 1) p) (seen v₀ index₀) ≡ onComponents image extent (capacity index₀) (componentsFrom image left c) (seen v index)) × (length index ≡ length index₀) × StaysClean (v₀ .fields) index₀ (v .fields) index
 
 abbrev μ-loop : tie.MeasureT-loop
-μ-loop image sheet p index₀ v₀ c₀ left₀ index v c left = left
+μ-loop image extent p index₀ v₀ c₀ left₀ index v c left = left
 
 add-left : tie.Need-add-left Inv-loop μ-loop
 add-left c = omega arith

@@ -6,8 +6,8 @@ use Rattle.laws.specs.Choice.{if_then_else_}
 use Rattle.field.specs.Profiles.{profileOf}
 use native.Mathlib.Omega.{arith}
 use borrow.Author.Needs.{needs}
-use Rattle.quick.proofs.fixed.extent_of.Statement.{statement}
-use Rattle.quick.proofs.fixed.extent_of.Tie as tie
+use Rattle.quick.proofs.fixed.measure_of.Statement.{statement}
+use Rattle.quick.proofs.fixed.measure_of.Tie as tie
 
 shared-slice-read-code : tie.Need-shared-slice-read-code
 shared-slice-read-code c = search needs
@@ -72,8 +72,8 @@ returns-8 c = λ e. held _ (c .switch-end .ensures e) refl refl
 returns-9 : tie.Need-returns-9
 returns-9 c = λ e. absurd (omega arith)
 
-pub extent-of-spec : {M : Type 1} → statement M
-extent-of-spec =
+pub measure-of-spec : {M : Type 1} → statement M
+measure-of-spec =
     tie.close
     (tie.spec
     shared-slice-read-code
