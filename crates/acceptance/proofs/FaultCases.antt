@@ -69,6 +69,6 @@ from-six j (TitleFault.deep e) = lit≤ tt
 pub nothing-behind : (extent : ℕ) → Refused ten extent 6
 unfolding InTable Applies
 nothing-behind extent =
-    Refused.progress (Structure.title 8 10) [] 0 prolog InTableOver.first
+    Refused.structure (Structure.title 8 10) [] 0 prolog InTableOver.first
     (record { few-lines = omega arith; few-fields = lit≤ tt; inside = Every.none; apart = Apart.none })
     (record { applies = TitleFault.cut (Cut.here (lit≤ tt)); least = from-six })

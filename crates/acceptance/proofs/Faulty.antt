@@ -35,7 +35,7 @@ module _ (im : List ℕ) (extent : ℕ) where
       let f = takes-fits extent mostFields (omega arith) (x .takes) in
       let e : answer im extent mostFields (x .structure) (x .count) (map entryOf (x .fields)) ≡ k = rw (zero-add (x .count)) at (x .answers) in
       let d = judged im extent (x .count) (x .fields) (x .structure) (sits im deepestTable prologBytes (x .structure) (x .fields) (x .count) (x .comes)) in
-      Refused.progress (x .structure) (x .fields) (x .count) p (x .comes)
+      Refused.structure (x .structure) (x .fields) (x .count) p (x .comes)
       (record { few-lines = omega (arith, x .room); few-fields = omega (arith, f .few); inside = f .inside; apart = f .apart })
       (rw e at (judged-lowest d (omega arith)))
 
@@ -52,7 +52,7 @@ module _ (im : List ℕ) (extent : ℕ) where
   is-refused (Refused.prolog l) =
       let j = lowest-judged (prolog-judged im) l in
       (ap (λ (s : State). s .progress .refusal) (if-ne (prologCode im) 0 _ _ (λ z. omega (arith, j .1))) ∙ j .0, omega (arith, j .0, j .1))
-  is-refused {k} (Refused.progress x fs lines p c kept l) =
+  is-refused {k} (Refused.structure x fs lines p c kept l) =
       let j = lowest-judged (judged im extent lines fs x (sits im deepestTable prologBytes x fs lines c)) l in
       let t = fits-takes extent mostFields [] {fs = fs} (omega (arith, kept .few-fields)) (kept .inside) (beside-none fs) (kept .apart) in
       let pos : 0 < k = omega (arith, j .0, j .1) in (

@@ -50,4 +50,4 @@ applies-range im extent fs lines (Structure.component at p) k f = part-range f
 
 pub refused-range : {im : List ℕ} {extent k : ℕ} → Refused im extent k → (2 ≤ k) × (k ≤ 11)
 refused-range {im} {extent} {k} (Refused.prolog l) = prolog-range (l .applies)
-refused-range {im} {extent} {k} (Refused.progress x fs lines p c kept l) = applies-range im extent fs lines x k (l .applies)
+refused-range {im} {extent} {k} (Refused.structure x fs lines p c kept l) = applies-range im extent fs lines x k (l .applies)

@@ -179,7 +179,7 @@ pub record Kept (extent lines : ℕ) (fs : List Field) : Type 0 where
 -- are all without fault, is at fault
 pub data Refused (im : List ℕ) (extent : ℕ) : ℕ → Type 0 where
   prolog : {k : ℕ} → Lowest (PrologFault im) k → Refused im extent k
-  progress :
+  structure :
       {k : ℕ} (x : Structure) (fs : List Field) (lines : ℕ) →
       Prolog im → InTable im deepestTable prologBytes x fs lines → Kept extent lines fs
       → Lowest (Applies im extent fs lines x) k →

@@ -13,7 +13,7 @@ use Rattle.handset.specs.Draw.{drawRefusal, drawCursor}
 use Rattle.handset.specs.OptionText.{textRefusal, textPlace}
 use Rattle.binding.specs.Answers.{refusedBy, cursorNumber}
 
--- ---- Open, with a session buffer of n bytes: a buffer of another length is refused with 12, after all else, and nothing is altered
+-- ---- Open, with a session buffer of n bytes: one of another length is refused with 12, after all else
 
 unfoldable pub openNumber : List ℕ → ℕ → ℕ → ℕ → ℕ → ℕ
 openNumber im extent columns lines n =
@@ -54,11 +54,11 @@ drawNumber im extent bs n =
 
 -- ---- Option text: where the item's own bytes begin in the image, and how many they are
 
--- a place counts so many times, so that the length of an item fits below it; a refusal of a text counts from
--- the other
+-- a place is multiplied by this, so that the length of an item, a byte, fits below it
 abbrev pub placeFactor : ℕ
 placeFactor = 65536
 
+-- and a refusal's number is added to this, which is above every place and length
 abbrev pub textRefusedFrom : ℕ
 textRefusedFrom = 4294967296
 

@@ -89,7 +89,8 @@ pub extern "C" fn handset_event(
     session: &mut [u8],
     event: u32,
 ) -> u32
-    ensures { λ r. ⌜ r ≡ eventNumber (now (image .entry)) (now (sheet .entry)) (now (session .entry)) event ⌝ }
+    ensures { λ r. ⌜ r
+        ≡ eventNumber (now (image .entry)) (now (sheet .entry)) (now (session .entry)) event ⌝ }
     ensures { λ _. ⌜ now (sheet .exit) ≡ eventSheet (now (image .entry)) (now (sheet .entry))
         (sessionFrom (now (session .entry))) event ⌝ }
     ensures { λ _. ⌜ now (session .exit)

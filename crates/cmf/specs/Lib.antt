@@ -4,3 +4,4 @@ pub mod Grammar
 pub mod Readers
 pub mod Places
 pub mod Forms
+pub mod Example

@@ -99,6 +99,6 @@ module _ (im : List ℕ) where
   fieldsAmong [] = []
   fieldsAmong (c ∷ cs) = heldBy (componentAt im c) ++ fieldsAmong cs
 
-  -- 01, Fields: the fields of an image, each as often as it is reached
+  -- 01, Refusal numbers: the fields of an image, each as often as it is reached
   unfoldable pub fieldsOf : List Field
   fieldsOf = fieldsAmong componentPlaces

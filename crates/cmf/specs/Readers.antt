@@ -1,8 +1,8 @@
 -- What a reader finds at a place, whatever the bytes: section 7's layouts in the order in which they are
 -- read. A refusal of 6 says that not all of the thing is in the image, 7 that section 7 does not give it or
 -- 01 leaves it for later, 9 (of a component) that its settings are bad. A head with a bad password is no
--- refusal yet, since 8 comes between: it is not `good`. What is refused with 6 or 7 reads as the last of its
--- list and leads nowhere.
+-- refusal yet, since 8 comes between: it is not `typeable`. What is refused with 6 or 7 reads as the last of
+-- its list and leads nowhere.
 use Prim.Native.Nat.{ℕ, zero, suc, _+_, _-_, _*_, _/_, _%_, max}
 use mathlib.Core.Bool.{Bool, true, false}
 use mathlib.Core.List.{List, []}

@@ -15,7 +15,7 @@ use Rattle.field.specs.Settings.{kindFits, settingsFit}
 use Rattle.field.specs.Sheet.{defaultWritten}
 use Rattle.cmf.specs.Readers.{textsFrom, titleBy, titleAt, headBy, headAt, fixedBytes, textCount, given, kindAt, defaultPlace, sheetPlaceAt, laidOut, componentBy, componentAt}
 use Rattle.cmf.specs.Places.{linesFrom, linesOf, componentsFrom, componentsOf, lineFrom, lineAt, lineCount, lineReach, linesReach, tableReach, componentPlaces, fieldsAmong, fieldsOf}
-use Rattle.cmf.proofs.Example.{image}
+use Rattle.cmf.specs.Example.{image}
 use Rattle.acceptance.specs.Check.{fine, andThen, padded, takeTitle, agrees, linePlaced, countLine, takeLine, inSheet, apart, apartFrom, takeField, takeComponent, onComponent, onComponents, onHead, onTitle, onSubmenu, onBody, onLine, onLines, onTable, walked, prologCode, checked, refusalOf}
 use Rattle.session.specs.Session.{opened}
 use Rattle.session.specs.Fits.{shapeFits, cursorHead, levelFits, levelsFit, tablesFit, modeFits, sessionFits}

@@ -31,7 +31,8 @@ pub fn event(image: &[u8], sheet: &mut [u8], session: Session, event: u8) -> Ste
     ensures { λ r. ⌜ r ≡ eventStep (now (image .entry)) (now (sheet .entry)) session event ⌝ }
     ensures { λ r. ⌜ answerNumber (r .answer)
         ≡ eventAnswer (now (image .entry)) (now (sheet .entry)) session event ⌝ }
-    ensures { λ _. ⌜ now (sheet .exit) ≡ eventSheet (now (image .entry)) (now (sheet .entry)) session event ⌝ }
+    ensures { λ _. ⌜ now (sheet .exit)
+        ≡ eventSheet (now (image .entry)) (now (sheet .entry)) session event ⌝ }
 {
     let faulty = refusal_of(image, sheet.len());
     let unfit = session_refusal(faulty, image, session);

@@ -1,5 +1,5 @@
--- The visit rules of an image (01, Fields and Keys), as the journal is fed them: those of crate field, at the
--- field that is read at a place.
+-- The visit rules of an image (01, Fields and Keys), as the journal is fed them: those of crates field and
+-- keys, at the field that is read at a place.
 use Prim.Native.Nat.{ℕ, _+_, _≤_}
 use mathlib.Core.Path.{_≡_}
 use mathlib.Core.Logic.{_⊎_}

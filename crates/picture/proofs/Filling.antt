@@ -14,7 +14,7 @@ use Rattle.laws.proofs.Cases.{if-ind, if-true, if-false, if-eq, if-ne, and-l, a
 use Rattle.cmf.specs.Readers.{textBytes, headAt}
 use Rattle.cmf.specs.Places.{componentsOf, lineAt, lineCount}
 use Rattle.cmf.specs.declared.head.Head.{Head}
-use Rattle.session.specs.Fits.{leastColumns, leastLines, shapeFits}
+use Rattle.session.specs.Fits.{leastColumns, leastDisplayLines, shapeFits}
 use Rattle.session.specs.declared.session.Session.{Session}
 use Rattle.session.specs.declared.session.Mode.{Mode}
 use Rattle.session.specs.declared.session.Mode.the-variants as mode
@@ -33,7 +33,7 @@ shape-of columns lines h =
     let b = and-r _ _ h in
     record {
       wide = leb-true leastColumns columns (and-l _ _ a);
-      high = leb-true leastLines lines (and-l _ _ b);
+      high = leb-true leastDisplayLines lines (and-l _ _ b);
     }
 
 -- ---- every row has as many cells as the display has columns

@@ -12,7 +12,7 @@ use Rattle.field.specs.Cells.{cellsOf, inSpan, within, legalTo, legal, inRange,
 use Rattle.field.specs.Settings.{kindFits, settingsFit}
 use Rattle.cmf.specs.Readers.{textsFrom, itemFrom, textBytes, titleBy, titleAt, headBy, headAt, fixedBytes, textCount, given, kindAt, defaultPlace, sheetPlaceAt, laidOut, componentBy, componentAt}
 use Rattle.cmf.specs.Places.{linesFrom, linesOf, componentsFrom, componentsOf, lineFrom, lineAt, lineCount, firstEditable}
-use Rattle.cmf.proofs.Example.{image}
+use Rattle.cmf.specs.Example.{image}
 use Rattle.session.specs.Session.{opened}
 use Rattle.session.specs.Fits.{cursorHead}
 use Rattle.texts.specs.Texts.{cellsText, fieldText}

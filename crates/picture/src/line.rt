@@ -27,7 +27,8 @@ struct Marked {
 
 // The mark by one component more, which is the last of its line or not.
 fn mark_by(mark: u8, editable: bool, last: bool) -> u8
-    ensures { λ r. ⌜ r ≡ if mark =? 0 then (if editable then colon else if last then star else 0) else mark ⌝ }
+    ensures { λ r. ⌜ r
+        ≡ if mark =? 0 then (if editable then colon else if last then star else 0) else mark ⌝ }
 {
     if mark != 0 {
         return mark;

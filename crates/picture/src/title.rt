@@ -118,7 +118,8 @@ struct Entry {
 
 fn entry_of(image: &[u8], session: Session) -> Entry
     ensures { λ r. ⌜ topRow (now (image .entry)) session ≡ if r .open
-        then passwordRow (now (image .entry)) session (r .typed) else titleRow (now (image .entry)) session ⌝ }
+        then passwordRow (now (image .entry)) session (r .typed)
+        else titleRow (now (image .entry)) session ⌝ }
 {
     let mode = session.mode;
     match mode {

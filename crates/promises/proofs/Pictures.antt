@@ -148,7 +148,7 @@ module _ (im sheet : List ℕ) (s : Session) (picture : List ℕ) where
 
   draw-shows : (other : List ℕ) → AgreeWhereShown im s sheet other → drawnPicture im sheet s picture ≡ drawnPicture im other s picture
   unfolding drawnPicture
-  draw-shows other h = rw (← h .long) (by-both (refusal =? 0) (λ _. picture-shows im s sheet other h) (λ _. refl))
+  draw-shows other h = rw (← h .same-length) (by-both (refusal =? 0) (λ _. picture-shows im s sheet other h) (λ _. refl))
 
   draw-length : length (drawnPicture im sheet s picture) ≡ length picture
   unfolding drawnPicture

@@ -36,8 +36,8 @@ use Rattle.handset.proofs.Ordering.{first-given, next-given, holding, failing, 
 use Rattle.handset.proofs.Drawing.{refused-cursor, refused-picture, drawn-cursor, drawn-picture}
 use Rattle.handset.proofs.Stepping.{refused-step, refused-sheet, stepped, stepped-sheet}
 use Rattle.handset.proofs.Defaults.{others-stay}
-use Rattle.handset.proofs.Finding.{text-none}
-use Rattle.handset.proofs.Items.{item-is}
+use Rattle.handset.proofs.Finding.{text-none, place-none, place-some}
+use Rattle.handset.proofs.Items.{item-is, first-item, items-in-turn}
 use Rattle.journal.specs.Journal.{allVisited}
 use Rattle.journal.specs.Rules.{fieldAt, rulesOf, IsField, Beside}
 use Rattle.journal.specs.Sitting.{begunWith}
@@ -112,10 +112,10 @@ demand-1 im = record {
     of-draw = draw-order im;
     of-text = text-order im;
   };
+  never-fits = closed-never-fits im;
   refused-open = λ sheet columns lines h. record {
     tells = refl;
     closes = if-ne (openRefusal im (length sheet) columns lines) 0 _ _ h;
-    never-fits = closed-never-fits im;
     keeps = if-ne (openRefusal im (length sheet) columns lines) 0 _ _ h;
   };
   refused-event = λ sheet s e h. record {
@@ -128,6 +128,7 @@ demand-1 im = record {
     keeps = sym (refused-picture im sheet s picture _ refl h);
   };
   refused-text = text-none im;
+  refused-place = place-none im;
 }
 
 -- every field of the derivation is read at its place, so that `IsField` misses none
@@ -230,7 +231,14 @@ demand-2 im = record {
     draws = sym (drawn-picture im sheet s picture _ refl h);
     points = sym (drawn-cursor im sheet s picture _ refl h);
   };
-  texts = record { given = given-text im; only = only-text im; own = item-is im };
+  texts = record {
+    given = given-text im;
+    only = only-text im;
+    first = first-item im;
+    next = λ extent place item h. items-in-turn im place item (item-is im extent place item h .inside);
+    place = place-some im;
+    own = item-is im;
+  };
   told-apart = record { events = told-apart; cursors = cursor-once };
   every-event = event-promises im;
   every-draw = draw-promises im;

@@ -20,7 +20,7 @@ use Rattle.picture.specs.declared.cursor.EditCursor.the-variants.{Nowhere}
 use Rattle.handset.specs.Open.{openRefusal, openAnswer, openSheet}
 use Rattle.handset.specs.Event.{eventRefusal, refusedWith, eventStep, eventAnswer, eventSheet}
 use Rattle.handset.specs.Draw.{drawRefusal, drawCursor, drawnPicture}
-use Rattle.handset.specs.OptionText.{reached, itemsIn, textRefusal, optionText}
+use Rattle.handset.specs.OptionText.{reached, itemsIn, textRefusal, textAt, textPlace, optionText}
 use Rattle.journal.specs.Rules.{fieldAt}
 
 -- which number is given; of a sheet only the length is asked. `Refused` is defined apart from the check
@@ -59,8 +59,6 @@ pub record OpenRefused (im sheet : List ℕ) (columns lines : ℕ) : Type 0 wher
       ≡ openRefusal im (length sheet) columns lines
   -- (by definition) gives a closed session
   pub closes : openAnswer im (length sheet) columns lines .session ≡ closed
-  -- (theorem) which never fits
-  pub never-fits : sessionFits im closed ≡ false
   -- (by definition) alters no byte of the sheet
   pub keeps : openSheet im sheet columns lines ≡ sheet
 
@@ -83,12 +81,17 @@ pub record DrawRefused (im sheet : List ℕ) (s : Session) (picture : List ℕ) 
 -- whatever a call refuses, it gives 01's number for it and changes nothing
 pub record Demand1 (im : List ℕ) : Type 0 where
   pub numbers : Numbers im
-  pub refused-open : (extent : List ℕ) (columns lines : ℕ)
-      → openRefusal im (length extent) columns lines ≢ 0 → OpenRefused im extent columns lines
-  pub refused-event : (extent : List ℕ) (s : Session) (e : ℕ)
-      → eventRefusal im (length extent) s e ≢ 0 → EventRefused im extent s e
-  pub refused-draw : (extent : List ℕ) (s : Session) (picture : List ℕ)
-      → drawRefusal im (length extent) s (length picture) ≢ 0 → DrawRefused im extent s picture
+  -- (theorem) a closed session never fits
+  pub never-fits : sessionFits im closed ≡ false
+  pub refused-open : (sheet : List ℕ) (columns lines : ℕ)
+      → openRefusal im (length sheet) columns lines ≢ 0 → OpenRefused im sheet columns lines
+  pub refused-event : (sheet : List ℕ) (s : Session) (e : ℕ)
+      → eventRefusal im (length sheet) s e ≢ 0 → EventRefused im sheet s e
+  pub refused-draw : (sheet : List ℕ) (s : Session) (picture : List ℕ)
+      → drawRefusal im (length sheet) s (length picture) ≢ 0 → DrawRefused im sheet s picture
   -- (by definition) a refused Option text returns an empty part; it too is lent the sheet for reading only
   pub refused-text : (extent place item : ℕ)
       → textRefusal im extent place item ≢ 0 → optionText im extent place item ≡ []
+  -- (by definition) and has neither a place nor a length
+  pub refused-place : (extent place item : ℕ) → textRefusal im extent place item ≢ 0
+      → textPlace im extent place item ≡ textAt (textRefusal im extent place item) 0 0

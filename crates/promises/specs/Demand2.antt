@@ -1,15 +1,17 @@
 -- Demand 2: what is accepted, and what the calls then do. For the marks see `Promises`.
-use Prim.Native.Nat.{ℕ, _<_}
+use Prim.Native.Nat.{ℕ, _+_, _<_}
 use mathlib.Core.Path.{_≡_}
 use mathlib.Core.Logic.{_↔_}
 use mathlib.Core.Bool.{true}
 use mathlib.Core.List.{List, List·Memᴰ}
 use lib.ListN.{length, getD}
+use Rattle.laws.specs.Bytes.{byteAt}
 use Rattle.laws.specs.Parts.{partAt}
 use Rattle.field.specs.Values.{bytesOf}
 use Rattle.field.specs.Sheet.{ownBytes}
 use Rattle.field.specs.declared.record.Field.{Field}
 use Rattle.cmf.specs.Grammar.{WellFormed}
+use Rattle.cmf.specs.Readers.{itemPlace}
 use Rattle.acceptance.specs.Check.{refusalOf}
 use Rattle.session.specs.Session.{noLevel, opened}
 use Rattle.session.specs.Fits.{shapeFits, cursorHead}
@@ -22,7 +24,7 @@ use Rattle.picture.specs.declared.cursor.EditCursor.{EditCursor}
 use Rattle.handset.specs.Open.{openRefusal, openAnswer, openSheet}
 use Rattle.handset.specs.Event.{eventRefusal, eventStep, eventAnswer, eventSheet}
 use Rattle.handset.specs.Draw.{drawRefusal, drawCursor, drawnPicture}
-use Rattle.handset.specs.OptionText.{itemsIn, ItemIs, textRefusal, optionText}
+use Rattle.handset.specs.OptionText.{itemsIn, ItemIs, textRefusal, textAt, textPlace, optionText}
 use Rattle.journal.specs.Rules.{fieldAt, IsField, Beside}
 use Rattle.journal.specs.Sitting.{begunWith, next, played}
 use Rattle.protected.specs.Protected.{OpenedByDigits, Unlocked}
@@ -86,6 +88,15 @@ pub record Texts (im : List ℕ) : Type 0 where
   -- (theorem) and for nothing else
   pub only : (extent place item : ℕ) → textRefusal im extent place item ≡ 0
       → IsField im place × (item < itemsIn (fieldAt im place .kind))
+  -- (theorem) items come one after the other: the first after the option's ten bytes, each next one at its
+  -- end
+  pub first : (place : ℕ) → itemPlace im place 0 ≡ place + 10
+  pub next : (extent place item : ℕ) → textRefusal im extent place item ≡ 0
+      → itemPlace im place (item + 1) ≡ itemPlace im place item + 1 + byteAt im (itemPlace im place item)
+  -- (by definition) the text is after its item's length byte, as long as that says
+  pub place : (extent place item : ℕ) → textRefusal im extent place item ≡ 0
+      → textPlace im extent place item
+      ≡ textAt 0 (itemPlace im place item + 1) (byteAt im (itemPlace im place item))
   -- (theorem) it is the item's own bytes, all of them in the image
   pub own : (extent place item : ℕ) → textRefusal im extent place item ≡ 0
       → ItemIs im place item (optionText im extent place item)
@@ -114,9 +125,9 @@ pub record Demand2 (im : List ℕ) : Type 0 where
       → drawRefusal im (length sheet) s (length picture) ≡ 0 → DrawDone im sheet s picture
   pub texts : Texts im
   pub told-apart : ToldApart
-  -- what these rules never do, refused or not: a flash changes nothing but the idle count, and more
+  -- what no event does, refused or not: see `Steps`
   pub every-event : (sheet : List ℕ) (s : Session) (e : ℕ) → EventPromises im sheet s e
-  -- an edit cursor is on a data cell; a picture depends on no byte of the sheet that it does not show
+  -- and no Draw: see `Pictures`
   pub every-draw : (sheet : List ℕ) (s : Session) (picture : List ℕ) → DrawPromises im sheet s picture
   pub protected : (sheet : List ℕ) (columns lines : ℕ) (es : List ℕ)
       → ProtectedLines im sheet columns lines es

@@ -1,7 +1,8 @@
--- The images of 01's cases, as short as section 7 lets them be: a row for each structure, with its place.
+-- The images of 01's cases and of some more, as short as section 7 lets them be: a row for each structure,
+-- with its place.
 use Prim.Native.Nat.{ℕ}
 use mathlib.Core.List.{List, [], _∷_}
-use Rattle.cmf.proofs.Example.{image}
+use Rattle.cmf.specs.Example.{image}
 
 -- the image of 01's picture, which `cmf` has as its example of the grammar: the option is at 24
 abbrev pub pictured : List ℕ

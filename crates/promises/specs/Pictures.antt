@@ -28,7 +28,7 @@ pub record OnShownLine (im : List ℕ) (s : Session) (p : ℕ) : Type 0 where
 -- two sheets of one length agree in the own bytes of each field on a shown line; nothing is asked of the
 -- visited one, which shows its working copy
 pub record AgreeWhereShown (im : List ℕ) (s : Session) (a b : List ℕ) : Type 0 where
-  pub long : length a ≡ length b
+  pub same-length : length a ≡ length b
   pub bytes : (p : ℕ) → OnShownLine im s p → componentAt im p .fielded ≡ true → visiting (s .mode) p ≡ false
       → ownBytes (componentAt im p .field) a ≡ ownBytes (componentAt im p .field) b
 

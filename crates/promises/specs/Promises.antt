@@ -2,8 +2,9 @@
 -- the definitions that the contracts of the four calls cite: a contract equates each answer, and every byte
 -- that its call was lent to write, with them. `proofs/Promises` proves it.
 --
--- Each clause of a demand has a mark. (theorem): it says more than the definitions that it names do at sight.
--- (by definition): it is what a call's definition says in one case, put here to be read.
+-- Each clause has a mark, or its file says that all of its clauses are theorems. (theorem): it says more than
+-- the definitions that it names do at sight. (by definition): it is what a call's definition says in one case,
+-- put here to be read.
 use Prim.Native.Nat.{ℕ}
 use mathlib.Core.List.{List}
 use Rattle.promises.specs.Demand1.{Demand1}

@@ -120,7 +120,10 @@ starred =
     -- delay-to-top 3, in the submenu of the second line, at 27: two seconds in a row leave it shown
     ∷ case returning (7 ∷ []) (down ∷ right ∷ second ∷ second ∷ [])
     (Seen.gives (taken ∷ taken ∷ taken ∷ taken ∷ []) (7 ∷ []) 27 0)
-    -- the third shows the top, at its first line
-    ∷ case returning (7 ∷ []) (down ∷ right ∷ second ∷ second ∷ second ∷ [])
-    (Seen.gives (taken ∷ taken ∷ taken ∷ taken ∷ taken ∷ []) (7 ∷ []) 10 0)
+    -- the third shows the top, at its first line: LEFT flashes there
+    ∷ case returning (7 ∷ []) (down ∷ right ∷ second ∷ second ∷ second ∷ left ∷ [])
+    (Seen.gives (taken ∷ taken ∷ taken ∷ taken ∷ taken ∷ flash ∷ []) (7 ∷ []) 10 0)
+    -- and three that are not in a row do not
+    ∷ case returning (7 ∷ []) (down ∷ right ∷ second ∷ second ∷ 0 ∷ second ∷ [])
+    (Seen.gives (taken ∷ taken ∷ taken ∷ taken ∷ flash ∷ taken ∷ []) (7 ∷ []) 27 0)
     ∷ []

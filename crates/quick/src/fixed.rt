@@ -295,7 +295,8 @@ fn measure_of(image: &[u8], at: usize) -> Measure
 // Where the trigger at a place ends; 0 in doubt.
 fn trigger_end(image: &[u8], at: usize) -> usize
     requires { ⌜ (at < length (now image)) × (byteAt (now image) at % 32 ≡ 0x17) ⌝ }
-    ensures { λ r. ⌜ (0 < r → Component (now (image .entry)) at r (triggerAt (now (image .entry)) at ∷ [])) ⌝ }
+    ensures { λ r. ⌜ (0 < r
+        → Component (now (image .entry)) at r (triggerAt (now (image .entry)) at ∷ [])) ⌝ }
 {
     let end = at + 4;
     if image.len() < end {

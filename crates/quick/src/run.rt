@@ -81,28 +81,28 @@ fn next_plain(image: &[u8], n: usize, line: usize, w: Tally) -> Position
     ensures { λ r. ⌜ (r .done ≡ false → Next (now (image .entry)) n line w r)
         × (r .done ≡ true → r ≡ record { tally = w; n = n; line = line; done = true }) ⌝ }
 {
-    let behind = Position {
+    let past = Position {
         tally: w,
         n,
         line,
         done: true,
     };
     if Image::MAX_TABLE_LINES - 1 <= n {
-        return behind;
+        return past;
     }
     if Image::MAX_LINES <= w.lines {
-        return behind;
+        return past;
     }
     if image[line] / 2 % 2 == 1 {
-        return behind;
+        return past;
     }
     if image[line] / 8 % 2 == 1 {
-        return behind;
+        return past;
     }
     let next = next_of(image, line);
     let end = plain_end(image, line, next, w.at);
     if end == 0 {
-        return behind;
+        return past;
     }
     Position {
         tally: Tally {

@@ -20,15 +20,15 @@ use Rattle.session.specs.declared.session.Mode.{Mode}
 use Rattle.session.specs.declared.session.Mode.the-variants as mode
 use Rattle.session.specs.declared.session.Session.{Session}
 
--- 01, row 1: a display has 14 to 20 columns and 2 to 4 lines (rows here, to tell them from lines of a table)
+-- 01, row 1: a display has 14 to 20 columns and 2 to 4 lines
 abbrev pub leastColumns : ℕ
 leastColumns = 14
 
 abbrev pub mostColumns : ℕ
 mostColumns = 20
 
-abbrev pub leastLines : ℕ
-leastLines = 2
+abbrev pub leastDisplayLines : ℕ
+leastDisplayLines = 2
 
 abbrev pub mostDisplayLines : ℕ
 mostDisplayLines = 4
@@ -36,7 +36,7 @@ mostDisplayLines = 4
 unfoldable pub shapeFits : ℕ → ℕ → Bool
 shapeFits columns lines =
     ((leastColumns ≤? columns) and (columns ≤? mostColumns))
-    and ((leastLines ≤? lines) and (lines ≤? mostDisplayLines))
+    and ((leastDisplayLines ≤? lines) and (lines ≤? mostDisplayLines))
 
 -- the place of a level's cursor line, and that line's head
 abbrev pub cursorLine : List ℕ → Level → ℕ

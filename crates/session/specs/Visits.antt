@@ -23,7 +23,7 @@ use Rattle.session.specs.declared.session.Session.{Session}
 use Rattle.session.specs.declared.answer.Answer.the-variants as answer
 use Rattle.session.specs.declared.answer.Stepped.{Stepped}
 
--- each key has its rule in `field`: the cursor keys and digits go by the rows of the kind and of the chosen
+-- each key has its rule in `keys`: the cursor keys and digits go by the rows of the kind and of the chosen
 -- cell, ENTER by the kind; R26: POINT flashes
 unfoldable pub pressed : Kind → Work → ℕ → Pressed
 pressed k w e =

@@ -1,11 +1,12 @@
--- A session as bytes, and back. A place is kept in eight bytes, so that every session that the code can hold comes back as it was.
+-- A session as bytes, and back. A place is kept in eight bytes, so that every session that the code can hold
+-- comes back as it was.
 --
 --   at   bytes
 --    0   1, 1, 1    columns, lines, how many tables are open above the shown one
 --    3   7 x 10     those tables from the top: place (8), cursor line, first shown line
 --   73   10         the shown table, likewise
 --   83   1          idle count
---   84   1, 8       mode (0 browsing, 1 visit, 2 password), with the component's place or the count of digits typed
+--   84   1, 8       mode (0 browsing, 1 visit, 2 password); component's place, or count of digits typed
 --   93   1          the chosen cell of the working copy
 --   94   32 x 4     its cells
 --  222   8 x 1      the digits typed

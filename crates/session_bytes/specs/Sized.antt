@@ -1,5 +1,5 @@
--- What the types of the code bound in a session, as far as its bytes ask for it: the arrays' lengths, and
--- numbers of more than a byte. Proofs alone cite it, so nobody has to believe it.
+-- Nobody has to believe this file, which proofs alone cite: what the types of the code bound in a session, as
+-- far as its bytes ask for it: the arrays' lengths, and numbers of more than a byte.
 use Prim.Native.Nat.{ℕ, _^_, _<_}
 use mathlib.Core.Path.{_≡_}
 use mathlib.Core.List.{List, [], _∷_}

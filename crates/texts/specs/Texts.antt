@@ -105,7 +105,7 @@ dateText long cs =
 abbrev pub triggerText : List ℕ
 triggerText = 0x5b ∷ star ∷ 0x5d ∷ []
 
--- what cells show at the component at a place: a counter is at the right of its width, an option's item at
+-- what cells show at the component at a place: a counter is right aligned in its width, an option's item at
 -- the left
 unfoldable pub cellsText : List ℕ → ℕ → Kind → List ℕ → List ℕ
 cellsText im p (Integer f) cs = numeralText (numeralOf f) cs
