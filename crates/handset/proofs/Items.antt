@@ -128,8 +128,8 @@ item-inside im extent place item z =
     g : Granted im extent place item
     g = granted im extent place item z
 
-    w : WellFormed im sheet
-    w = accepted-exactly-when-well-formed im sheet .0 (g .accepted)
+    w : WellFormed im extent
+    w = accepted-exactly-when-well-formed im extent .0 (g .accepted)
 
     all : AllStand im (w .fields)
     all = every-table im _ (component-stands im) _ _ _ _ (w .table)
