@@ -57,28 +57,26 @@ impl Head {
     }
 }
 
-// Where a line's options are, counted from its tag: the pointer back, the submenu's offset, and where the
-// options end.
-pub struct Options {
-    pub back: usize,
-    pub submenu: usize,
-    pub end: usize,
+// Where a line's pointer back is, counted from its tag: after next-line-ofs, which the last line has not.
+pub fn back_offset(tag: u8) -> usize
+    ensures { λ r. ⌜ r ≡ backPlace 0 tag ⌝ }
+{
+    1 + 2 * (1 - tag as usize / 2 % 2)
 }
 
-impl Options {
-    pub fn of_tag(tag: u8) -> Self
-        ensures { λ r. ⌜ (r .back ≡ backPlace 0 tag)
-            × ((r .submenu ≡ submenuPlace 0 tag) × (r .end ≡ optionsEnd 0 tag)) ⌝ }
-    {
-        let t = tag as usize;
-        let back = 1 + 2 * (1 - t / 2 % 2);
-        let submenu = back + 2 * (1 - t % 2) + 2 * (t / 4 % 2);
-        Options {
-            back,
-            submenu,
-            end: submenu + 2 * (t / 8 % 2),
-        }
-    }
+// Where its submenu's offset is: after the pointer back, which the first line has not, and the enable address.
+pub fn submenu_offset(tag: u8) -> usize
+    ensures { λ r. ⌜ r ≡ submenuPlace 0 tag ⌝ }
+{
+    let t = tag as usize;
+    back_offset(tag) + 2 * (1 - t % 2) + 2 * (t / 4 % 2)
+}
+
+// How many bytes tag and options take; a password follows them.
+pub fn options_length(tag: u8) -> usize
+    ensures { λ r. ⌜ r ≡ optionsEnd 0 tag ⌝ }
+{
+    submenu_offset(tag) + 2 * (tag as usize / 8 % 2)
 }
 
 fn is_typeable(image: &[u8], protected: bool, at: usize) -> bool
@@ -96,13 +94,12 @@ fn head_read(image: &[u8], p: usize, tag: u8, end: usize) -> Head
     ensures { λ r. ⌜ r ≡ headRead (now (image .entry)) p tag end ⌝ }
 {
     let t = tag as usize;
-    let options = Options::of_tag(tag);
-    let password = p + options.end;
+    let password = p + options_length(tag);
     let protected = (t / 8 % 2) * (t / 16 % 2) == 1;
     let typeable = is_typeable(image, protected, password);
     let a = word_at(image, p + 1) as usize;
-    let b = word_at(image, p + options.back) as usize;
-    let d = word_at(image, p + options.submenu) as usize;
+    let b = word_at(image, p + back_offset(tag)) as usize;
+    let d = word_at(image, p + submenu_offset(tag)) as usize;
     Head {
         refusal: 0,
         typeable,
@@ -126,7 +123,7 @@ fn head_by(image: &[u8], p: usize, tag: u8) -> Head
         (textsFrom (now (image .entry)) (passwords tag) (optionsEnd p tag) 0) ⌝ }
 {
     let t = tag as usize;
-    let options = p + Options::of_tag(tag).end;
+    let options = p + options_length(tag);
     let run = read_texts(image, (t / 8 % 2) * (t / 16 % 2), options);
     if options <= image.len() {
         if run.fits {
@@ -160,8 +157,7 @@ fn short_head(image: &[u8], p: usize, tag: u8) -> Head
     ensures { λ r. ⌜ r ≡ headRead (now (image .entry)) p tag (optionsEnd p tag) ⌝ }
 {
     let t = tag as usize;
-    let options = Options::of_tag(tag);
-    let end = p + options.end;
+    let end = p + options_length(tag);
     Head {
         refusal: 0,
         typeable: true,
@@ -169,9 +165,9 @@ fn short_head(image: &[u8], p: usize, tag: u8) -> Head
         last: t / 2 % 2 == 1,
         submenu: t / 8 % 2 == 1,
         protected: false,
-        back: word_in(image, p + options.back),
+        back: word_in(image, p + back_offset(tag)),
         next: p + word_in(image, p + 1),
-        table: Image::PROLOG + word_in(image, p + options.submenu),
+        table: Image::PROLOG + word_in(image, p + submenu_offset(tag)),
         password: end,
         end,
         component: end + end % 2,

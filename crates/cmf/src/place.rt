@@ -10,8 +10,8 @@ ghost use Rattle.cmf.specs.Places.{lineAt, lineCount, lineFound, lineFro
 ghost use Rattle.cmf.specs.Places.{nextEditable};
 use crate::component::read_component;
 use crate::head::Head;
-use crate::head::Options;
 use crate::head::any_head;
+use crate::head::options_length;
 use crate::head::read_head;
 use crate::image::Image;
 use crate::image::word_in;
@@ -58,7 +58,7 @@ fn has_password(image: &[u8], p: usize, tag: u8) -> bool
     if 31 < tag {
         return false;
     }
-    let run = read_texts(image, 1, p + Options::of_tag(tag).end);
+    let run = read_texts(image, 1, p + options_length(tag));
     run.fits
 }
 

@@ -8,7 +8,8 @@ ghost use Rattle.cmf.specs.Layouts.{Aligned, Text};
 ghost use Rattle.cmf.specs.Grammar.{Digits, Head, isLast, passwordAt, hasSubmenu, nextLine, submenuTable};
 ghost use Rattle.quick.specs.Accept.{Linked, Placed};
 use crate::tally::Tally;
-use cmf::head::Options;
+use cmf::head::back_offset;
+use cmf::head::options_length;
 use cmf::image::Image;
 use cmf::text::password_fits;
 
@@ -78,7 +79,7 @@ fn is_linked(image: &[u8], n: usize, before: usize, p: usize) -> bool
     if tag % 2 == 1 {
         return false;
     }
-    word_in(image, p + Options::of_tag(tag).back) == p - before
+    word_in(image, p + back_offset(tag)) == p - before
 }
 
 // Where the password at a place ends; 0 in doubt.
@@ -104,7 +105,7 @@ fn options_end(image: &[u8], p: usize) -> usize
     requires { ⌜ p < length (now image) ⌝ }
     ensures { λ r. ⌜ (r ≡ passwordAt (now (image .entry)) p) × (r ≤ p + 9) ⌝ }
 {
-    p + Options::of_tag(image[p]).end
+    p + options_length(image[p])
 }
 
 // Where the head of any line ends, with n lines of its table before it; 0 in doubt.

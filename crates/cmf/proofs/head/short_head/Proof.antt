@@ -10,11 +10,14 @@ use borrow.Author.Needs.{needs}
 use Rattle.cmf.proofs.head.short_head.Statement.{statement}
 use Rattle.cmf.proofs.head.short_head.Tie as tie
 
-of-tag-requires : tie.Need-of-tag-requires
-of-tag-requires c κs = search needs
+options-length-requires : tie.Need-options-length-requires
+options-length-requires c κs = search needs
 
 add-end : tie.Need-add-end
 add-end c = search needs
+
+back-offset-requires : tie.Need-back-offset-requires
+back-offset-requires c κs = search needs
 
 add-word-in : tie.Need-add-word-in
 add-word-in c = search needs
@@ -31,35 +34,40 @@ word-in-requires-2 c κs = search needs
 add-t19 : tie.Need-add-t19
 add-t19 c = search needs
 
+submenu-offset-requires : tie.Need-submenu-offset-requires
+submenu-offset-requires c κs = search needs
+
 add-word-in-3 : tie.Need-add-word-in-3
 add-word-in-3 c = search needs
 
 word-in-requires-3 : tie.Need-word-in-requires-3
 word-in-requires-3 c κs = search needs
 
-add-t22 : tie.Need-add-t22
-add-t22 c = search needs
+add-t23 : tie.Need-add-t23
+add-t23 c = search needs
 
-add-t24 : tie.Need-add-t24
-add-t24 c = search needs
+add-t25 : tie.Need-add-t25
+add-t25 c = search needs
 
 returns : tie.Need-returns
 unfolding if_then_else_
-returns c = let p = c .before .before .before .before .before .before .before .before .args .p in let tag = c .before .before .before .before .before .before .before .before .args .tag in let o = c .before .before .before .before .before .before .of-tag .result in let a : p + o .back ≡ backPlace p tag = omega (arith, c .before .before .before .before .before .before .of-tag .ensures .0) in let b : p + o .submenu ≡ submenuPlace p tag = omega (arith, c .before .before .before .before .before .before .of-tag .ensures .1 .0) in let d : p + o .end ≡ optionsEnd p tag = omega (arith, c .before .before .before .before .before .before .of-tag .ensures .1 .1) in simp (div-one, no-password tag (c .before .before .before .before .before .before .before .before .pre .1), c .before .before .before .word-in .ensures .0, c .before .before .word-in2 .ensures .0, c .word-in3 .ensures .0, a, b, d)
+returns c = let p = c .before .before .before .before .before .before .before .args .p in let tag = c .before .before .before .before .before .before .before .args .tag in let a : p + c .before .before .before .before .back-offset .result ≡ backPlace p tag = omega (arith, c .before .before .before .before .back-offset .ensures) in let b : p + c .before .submenu-offset .result ≡ submenuPlace p tag = omega (arith, c .before .submenu-offset .ensures) in let d : p + c .before .before .before .before .before .options-length .result ≡ optionsEnd p tag = omega (arith, c .before .before .before .before .before .options-length .ensures) in simp (div-one, no-password tag (c .before .before .before .before .before .before .before .pre .1), c .before .before .before .word-in .ensures .0, c .before .before .word-in2 .ensures .0, c .word-in3 .ensures .0, a, b, d)
 
 pub short-head-spec : {M : Type 1} → statement M
 short-head-spec =
     tie.close
     (tie.spec
-    of-tag-requires
+    options-length-requires
     add-end
+    back-offset-requires
     add-word-in
     word-in-requires
     add-word-in-2
     word-in-requires-2
     add-t19
+    submenu-offset-requires
     add-word-in-3
     word-in-requires-3
-    add-t22
-    add-t24
+    add-t23
+    add-t25
     returns)

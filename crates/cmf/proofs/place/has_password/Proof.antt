@@ -14,8 +14,8 @@ returns c = λ e. absurd (false≢true e)
 returns-2 : tie.Need-returns-2
 returns-2 c = λ e. absurd (false≢true e)
 
-of-tag-requires : tie.Need-of-tag-requires
-of-tag-requires c κs = search needs
+options-length-requires : tie.Need-options-length-requires
+options-length-requires c κs = search needs
 
 add-read-texts : tie.Need-add-read-texts
 add-read-texts c = search needs
@@ -24,9 +24,15 @@ read-texts-requires : tie.Need-read-texts-requires
 read-texts-requires c κs = search needs
 
 returns-3 : tie.Need-returns-3
-returns-3 c = λ e. let d : c .before .before .before .before .before .before .args .p + c .before .before .of-tag .result .end ≡ optionsEnd (c .before .before .before .before .before .before .args .p) (c .before .before .before .before .before .before .args .tag) = omega (arith, c .before .before .of-tag .ensures .1 .1) in (c .before .before .before .before .if1 .left, omega arith, rw d at (rw (c .read-texts .ensures) at e))
+returns-3 c = λ e. let d : c .before .before .before .before .before .args .p + c .before .options-length .result ≡ optionsEnd (c .before .before .before .before .before .args .p) (c .before .before .before .before .before .args .tag) = omega (arith, c .before .options-length .ensures) in (c .before .before .before .if1 .left, omega arith, rw d at (rw (c .read-texts .ensures) at e))
 
 pub has-password-spec : {M : Type 1} → statement M
 has-password-spec =
     tie.close
-    (tie.spec returns returns-2 of-tag-requires add-read-texts read-texts-requires returns-3)
+    (tie.spec
+    returns
+    returns-2
+    options-length-requires
+    add-read-texts
+    read-texts-requires
+    returns-3)

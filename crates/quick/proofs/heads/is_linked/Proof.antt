@@ -19,8 +19,8 @@ returns c = λ e. rw (c .if1 .taken) (linked-first _ _ _ (eqb-true _ 1 e))
 returns-2 : tie.Need-returns-2
 returns-2 c = λ e. absurd (false≢true e)
 
-of-tag-requires : tie.Need-of-tag-requires
-of-tag-requires c κs = search needs
+back-offset-requires : tie.Need-back-offset-requires
+back-offset-requires c κs = search needs
 
 add-word-in : tie.Need-add-word-in
 add-word-in c = search needs
@@ -32,7 +32,7 @@ sub-result : tie.Need-sub-result
 sub-result c = search needs
 
 returns-3 : tie.Need-returns-3
-returns-3 c = λ e. let at : c .before .before .before .before .before .before .before .args .p + c .before .before .of-tag .result .back ≡ previousAt (c .before .before .before .before .before .before .before .args .image .now) (c .before .before .before .before .before .before .before .args .p) = omega (arith, c .before .before .of-tag .ensures .0) in linked-later _ _ _ _ (c .before .before .before .before .if1 .left) (c .before .before .before .if2 .left) (c .before .before .before .before .before .before .before .pre .1) (rw at at (sym (c .word-in .ensures .0)) ∙ eqb-true _ _ e)
+returns-3 c = λ e. let at : c .before .before .before .before .before .before .args .p + c .before .back-offset .result ≡ previousAt (c .before .before .before .before .before .before .args .image .now) (c .before .before .before .before .before .before .args .p) = omega (arith, c .before .back-offset .ensures) in linked-later _ _ _ _ (c .before .before .before .if1 .left) (c .before .before .if2 .left) (c .before .before .before .before .before .before .pre .1) (rw at at (sym (c .word-in .ensures .0)) ∙ eqb-true _ _ e)
 
 pub is-linked-spec : {M : Type 1} → statement M
 is-linked-spec =
@@ -41,7 +41,7 @@ is-linked-spec =
     shared-slice-read-tag
     returns
     returns-2
-    of-tag-requires
+    back-offset-requires
     add-word-in
     word-in-requires
     sub-result
