@@ -12,7 +12,6 @@ use crate::component::read_component;
 use crate::head::Head;
 use crate::head::any_head;
 use crate::head::options_length;
-use crate::head::read_head;
 use crate::image::Image;
 use crate::image::word_in;
 use crate::text::read_texts;
@@ -129,7 +128,7 @@ pub fn reach(image: &[u8], table: usize, k: usize) -> Found
     let mut p = title.line;
     let mut left = k;
     while 0 < left {
-        let h = read_head(image, p);
+        let h = step_at(image, p);
         if h.last {
             return Found::Nothing;
         }
