@@ -64,7 +64,8 @@ pub fn back_offset(tag: u8) -> usize
     1 + 2 * (1 - tag as usize / 2 % 2)
 }
 
-// Where its submenu's offset is: after the pointer back, which the first line has not, and the enable address.
+// Where its submenu's offset is: after the pointer back, which the first line has not, and the enable
+// address.
 pub fn submenu_offset(tag: u8) -> usize
     ensures { λ r. ⌜ r ≡ submenuPlace 0 tag ⌝ }
 {
