@@ -1,13 +1,14 @@
 -- The theorem that users rely on: an image is accepted exactly when it is well formed, and then the walk's counts and index are those
 -- of the grammar. The readers agree with the grammar (crate cmf), so nothing is left as a premise.
 use Prim.Native.Nat.{ℕ, _+_, _≤_}
-use mathlib.Core.Path.{_≡_, sym, ap, _∙_}
-use mathlib.Core.List.{List, map}
+use mathlib.Core.Path.{_≡_, refl, sym, ap, _∙_}
+use mathlib.Core.List.{List, [], _∷_, map}
 use native.Mathlib.Omega.{arith}
 use lib.ListN.{length, length-map}
+use Rattle.field.specs.declared.record.Field.{Field}
 use Rattle.cmf.specs.Limits.{mostFields}
 use Rattle.cmf.specs.Grammar.{WellFormed}
-use Rattle.cmf.specs.Places.{componentsFrom, fieldsOf}
+use Rattle.cmf.specs.Places.{componentsFrom, fieldsOf, fieldPlaces}
 use Rattle.cmf.proofs.Agreeing.{agree}
 use Rattle.cmf.proofs.Onward.{component-onward}
 use Rattle.acceptance.specs.Check.{state, entryOf, checked, refusalOf}
@@ -18,6 +19,11 @@ use Rattle.acceptance.specs.declared.progress.Progress.{Progress}
 use Rattle.acceptance.proofs.Indexed.{listed-index}
 use Rattle.acceptance.proofs.Places as places
 use Rattle.acceptance.proofs.Turns as turns
+
+-- an entry has its field's place
+entry-places : (fs : List Field) → map (λ (e : Entry). e .place .0) (map entryOf fs) ≡ map (λ (f : Field). f .image .0) fs
+entry-places [] = refl
+entry-places (f ∷ fs) = ap (λ (ps : List ℕ). f .image .0 ∷ ps) (entry-places fs)
 
 module _ (im : List ℕ) (extent : ℕ) where
   pub accepted-exactly-when-well-formed : (refusalOf im extent ≡ 0 → WellFormed im extent) × (WellFormed im extent → refusalOf im extent ≡ 0)
@@ -34,6 +40,10 @@ module _ (im : List ℕ) (extent : ℕ) where
   -- and so are the check's, where it refuses nothing
   pub checked-fields : refusalOf im extent ≡ 0 → checked im extent .fields ≡ map entryOf (fieldsOf im)
   checked-fields z = let w = accepted-exactly-when-well-formed .0 z in counted w .index ∙ ap (map entryOf) (fields-are w)
+
+  -- so the places in its index are the fields'
+  pub checked-places : refusalOf im extent ≡ 0 → map (λ (e : Entry). e .place .0) (checked im extent .fields) ≡ fieldPlaces im
+  checked-places z = ap (map (λ (e : Entry). e .place .0)) (checked-fields z) ∙ entry-places (fieldsOf im)
 
   -- what the check hands out is read back, where it refuses nothing
   pub index-read : (v : Progress) (xs : List ℕ) → v ≡ checked im extent .progress → xs ≡ indexOf (checked im extent .fields) → v .refusal ≡ 0 → seen v xs ≡ checked im extent

@@ -173,7 +173,7 @@ module _ (im : List ℕ) (extent : ℕ) where
   module _
       (most k left p : ℕ) (s t : State) (c : Component) (h : 0 < left) (z : k ≡ most) (e : c ≡ componentAt im p) (f : t ≡ takeComponent im extent k p c s) where
     components-one : onComponents im extent most (componentsFrom im left p) s
-        ≡ andThen t (onComponents im extent most (if c .last then [] else componentsFrom im (left - 1) (c .next)) t)
+        ≡ andThen t (onComponents im extent most (if c .last then [] else componentsFrom im (left - 1) (c .next .0)) t)
     unfolding componentsFrom onComponents onComponent
     components-one =
         let g : t ≡ takeComponent im extent most p c s = f ∙ ap (λ (j : ℕ). takeComponent im extent j p c s) z in
@@ -187,7 +187,7 @@ module _ (im : List ℕ) (extent : ℕ) where
     components-last y l = components-one ∙ then-yes _ _ y ∙ rw l
 
     pub components-next : t .progress .refusal ≡ 0 → c .last ≡ false
-        → onComponents im extent most (componentsFrom im left p) s ≡ onComponents im extent most (componentsFrom im (left - 1) (c .next)) t
+        → onComponents im extent most (componentsFrom im left p) s ≡ onComponents im extent most (componentsFrom im (left - 1) (c .next .0)) t
     unfolding if_then_else_
     components-next y l = components-one ∙ then-yes _ _ y ∙ rw l
 
@@ -219,10 +219,10 @@ module _ (im : List ℕ) (extent : ℕ) where
 
     module _
         (y : v .refusal ≡ 0) (q : State)
-        (g : q ≡ onComponents im extent most (componentsFrom im (length im + 1) (h .component)) (seen v xs)) where
+        (g : q ≡ onComponents im extent most (componentsFrom im (length im + 1) (h .component .0)) (seen v xs)) where
       walked : q ≡ onComponents im extent most (componentsOf im p) (seen v xs)
       unfolding componentsOf
-      walked = g ∙ ap (λ (k : Head). onComponents im extent most (componentsFrom im (length im + 1) (k .component)) (seen v xs)) e
+      walked = g ∙ ap (λ (k : Head). onComponents im extent most (componentsFrom im (length im + 1) (k .component .0)) (seen v xs)) e
 
       pub line-bad : (q .progress .refusal ≡ 0 → ⊥) → q ≡ line
       unfolding onBody
@@ -237,20 +237,20 @@ module _ (im : List ℕ) (extent : ℕ) where
       line-plain a b = sym (line-submenu a ∙ rw b)
 
       pub line-deep : (k : ℕ) (t r : Progress) (ys : List ℕ) → k ≡ most → q .progress .refusal ≡ 0 → h .submenu ≡ true
-          → seen t ys ≡ onTable im extent k below (h .table) q → r ≡ pastLine t (q .progress .at) → seen r ys ≡ line
+          → seen t ys ≡ onTable im extent k below (h .table .0) q → r ≡ pastLine t (q .progress .at) → seen r ys ≡ line
       unfolding onSubmenu if_then_else_
       line-deep k t r ys z a b u i =
-          let d : seen t ys ≡ onTable im extent most below (h .table) q = u ∙ ap (λ (j : ℕ). onTable im extent j below (h .table) q) z in
+          let d : seen t ys ≡ onTable im extent most below (h .table .0) q = u ∙ ap (λ (j : ℕ). onTable im extent j below (h .table .0) q) z in
           rw i (sym (line-submenu a ∙ rw (b, ← d)))
 
   -- ---- a table
 
   lines-here : (n p : ℕ) (h : Head) → n < 100 → h ≡ headAt im p
-      → linesFrom im (100 - n) p ≡ p ∷ (if h .last then [] else linesFrom im (100 - (n + 1)) (h .next))
+      → linesFrom im (100 - n) p ≡ p ∷ (if h .last then [] else linesFrom im (100 - (n + 1)) (h .next .0))
   unfolding linesFrom
   lines-here n p h l e =
       ap (λ (k : ℕ). linesFrom im k p) (hundred n l)
-      ∙ ap (λ (g : Head). p ∷ (if g .last then [] else linesFrom im (100 - (n + 1)) (g .next))) (sym e)
+      ∙ ap (λ (g : Head). p ∷ (if g .last then [] else linesFrom im (100 - (n + 1)) (g .next .0))) (sym e)
 
   module _
       (most k below n before p : ℕ) (s t : State) (l : n < 100) (z : k ≡ most) (f : t ≡ onLine im extent k (onTable im extent k below) n before p s) where
@@ -258,7 +258,7 @@ module _ (im : List ℕ) (extent : ℕ) where
     rest = onLines im extent most (onTable im extent most below) n before (linesFrom im (100 - n) p) s
 
     lines-one : (h : Head) → h ≡ headAt im p
-        → rest ≡ andThen t (onLines im extent most (onTable im extent most below) (n + 1) p (if h .last then [] else linesFrom im (100 - (n + 1)) (h .next)) t)
+        → rest ≡ andThen t (onLines im extent most (onTable im extent most below) (n + 1) p (if h .last then [] else linesFrom im (100 - (n + 1)) (h .next .0)) t)
     unfolding onLines
     lines-one h e =
         let g : t ≡ onLine im extent most (onTable im extent most below) n before p s = f ∙ ap (λ (j : ℕ). onLine im extent j (onTable im extent j below) n before p s) z in
@@ -272,7 +272,7 @@ module _ (im : List ℕ) (extent : ℕ) where
     lines-last h e y a = lines-one h e ∙ then-yes _ _ y ∙ rw a
 
     pub lines-next : (h : Head) → h ≡ headAt im p → t .progress .refusal ≡ 0 → h .last ≡ false
-        → rest ≡ onLines im extent most (onTable im extent most below) (n + 1) p (linesFrom im (100 - (n + 1)) (h .next)) t
+        → rest ≡ onLines im extent most (onTable im extent most below) (n + 1) p (linesFrom im (100 - (n + 1)) (h .next .0)) t
     unfolding if_then_else_
     lines-next h e y a = lines-one h e ∙ then-yes _ _ y ∙ rw a
 
@@ -303,7 +303,7 @@ module _ (im : List ℕ) (extent : ℕ) where
 
     pub table-lines : v .refusal ≡ 0 → (left ≡ 0 → ⊥)
         → onTable im extent most left at (seen w xs)
-        ≡ onLines im extent most (onTable im extent most (left - 1)) 0 0 (linesFrom im 100 (t .line)) (seen v xs)
+        ≡ onLines im extent most (onTable im extent most (left - 1)) 0 0 (linesFrom im 100 (t .line .0)) (seen v xs)
     unfolding onTable linesOf
     table-lines y z =
         let k : left ≡ suc (left - 1) = omega arith in

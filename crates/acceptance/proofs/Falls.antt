@@ -55,11 +55,11 @@ module _ (im : List ℕ) (A : Agree im) (extent most : ℕ) where
       let w = A .component-is x in
       let v = A .component-reads p (w .refusal) in
       let step : onComponents im extent most (componentsFrom im (suc k) c) (cameTo at lines es)
-      ≡ onComponents im extent most (componentsFrom im k (componentAt im p .next)) (cameTo mid lines (put es fs)) =
+      ≡ onComponents im extent most (componentsFrom im k (componentAt im p .next .0)) (cameTo mid lines (put es fs)) =
       ap (λ (cs : List ℕ). onComponents im extent most cs (cameTo at lines es)) (rw (n .here) (parts.places-more im k p (parts.last-false im A x l)))
       ∙ parts.walk-on im A extent most p _ (cameTo at lines es) mid lines (put es fs) (component-goes im A extent most p mid at lines es fs x a (u .0)) in
       rw (step, ← put-put es fs gs)
-      (components-fall r k (componentAt im p .next) lines (put es fs) (n .next) (omega (arith, w .ends, v .inside)) (n .enough) (u .1))
+      (components-fall r k (componentAt im p .next .0) lines (put es fs) (n .next) (omega (arith, w .ends, v .inside)) (n .enough) (u .1))
 
   -- ---- a line
 
@@ -72,7 +72,7 @@ module _ (im : List ℕ) (A : Agree im) (extent most : ℕ) where
         Falls (submenu t (cameTo at lines es)) x (lines + k) (put es gs)
 
     submenu-falls :
-        (p : ℕ) (s : State) (r : ℕ) → headAt im p .submenu ≡ true → submenu (headAt im p .table) s .progress .refusal ≡ r →
+        (p : ℕ) (s : State) (r : ℕ) → headAt im p .submenu ≡ true → submenu (headAt im p .table .0) s .progress .refusal ≡ r →
         onSubmenu im extent most submenu (headAt im p) s .progress .refusal ≡ r
     unfolding onSubmenu
     submenu-falls p s r e a = ap (λ (x : State). x .progress .refusal) (if-true _ _ e) ∙ a
@@ -89,11 +89,11 @@ module _ (im : List ℕ) (A : Agree im) (extent most : ℕ) where
     part-falls {n} {before} {p} {mid} at lines es h c few a room t r pos e =
         let v = head-reads im A h in
         let i = A .head-is h in
-        let q : headAt im p .component ≡ evenFrom mid = omega (arith, v .component, i .ends) in
+        let q : headAt im p .component .0 ≡ evenFrom mid = omega (arith, v .component, i .ends) in
         ap (λ (s : State). s .progress .refusal)
         (then-is (onBody im extent most submenu p) _ mid (lines + 1) es (head-goes im A extent most n before p mid at lines es h a few room))
         ∙ stops _ _ r pos
-        (components-fall c (length im + 1) (headAt im p .component) (lines + 1) es q (omega (arith, v .inside, i .ends)) (omega (arith, v .after, i .ends)) t r pos e)
+        (components-fall c (length im + 1) (headAt im p .component .0) (lines + 1) es q (omega (arith, v .inside, i .ends)) (omega (arith, v .after, i .ends)) t r pos e)
 
     line-falls :
         SubFalls → {n before at p k : ℕ} {x : Structure} {fs : List Field} → InLine im Below n before at p x fs k → (lines : ℕ) (es : List Entry) →
@@ -105,7 +105,7 @@ module _ (im : List ℕ) (A : Agree im) (extent most : ℕ) where
         let u = takes-split extent most fs {gs = gs} t in
         ap (λ (s : State). s .progress .refusal) (body-goes im A extent most submenu Sub at lines es h c few a (omega arith) (u .0))
         ∙ submenu-falls p _ r (submenu-marked im A v b)
-        (go (headAt im p .table) end (lines + 1) (put es fs) x gs k (rw (v .table) y) (u .1) (omega arith) r pos
+        (go (headAt im p .table .0) end (lines + 1) (put es fs) x gs k (rw (v .table) y) (u .1) (omega arith) r pos
         (rw (add-assoc lines 1 k, put-put es fs gs) e))
 
     -- ---- lines
@@ -175,10 +175,10 @@ module _ (im : List ℕ) (A : Agree im) (extent most : ℕ) where
   table-over left t at lines es go (InTableOver.lines end p x o y) u l = λ r pos e.
       let i = A .title-is x in
       let s : onTitle im extent most t (cameTo at lines es) ≡ cameTo end lines es = title-goes im A extent most t at lines es (i .refusal) ∙ rw (i .ends) in
-      let q : titleAt im t .line ≡ p = omega (arith, A .title-reads t (i .refusal) .line, i .ends, is-odd o) in
+      let q : titleAt im t .line .0 ≡ p = omega (arith, A .title-reads t (i .refusal) .line, i .ends, is-odd o) in
       let step : onTable im extent most (suc left) t (cameTo at lines es)
       ≡ onLines im extent most (onTable im extent most left) 0 0 (linesFrom im (mostLinesOfTable + 1) p) (cameTo end lines es) =
-      then-is (onLines im extent most (onTable im extent most left) 0 0 (linesFrom im (mostLinesOfTable + 1) (titleAt im t .line))) _ end lines es s ∙ rw q in
+      then-is (onLines im extent most (onTable im extent most left) 0 0 (linesFrom im (mostLinesOfTable + 1) (titleAt im t .line .0))) _ end lines es s ∙ rw q in
       ap (λ (z : State). z .progress .refusal) step
       ∙ lines-fall (onTable im extent most left) (Table im left) (InTable im left) (table-goes im A extent most left) go y (mostLinesOfTable + 1) lines es refl (omega arith) u l r pos e
 

@@ -66,9 +66,9 @@ from-six : (j : ℕ) → TitleFault ten 8 10 j → 6 ≤ j
 from-six j (TitleFault.cut c) = lit≤ tt
 from-six j (TitleFault.deep e) = lit≤ tt
 
-pub nothing-behind : (extent : ℕ) → Refused ten extent 6
+pub nothing-after : (extent : ℕ) → Refused ten extent 6
 unfolding InTable Applies
-nothing-behind extent =
+nothing-after extent =
     Refused.structure (Structure.title 8 10) [] 0 prolog InTableOver.first
     (record { few-lines = omega arith; few-fields = lit≤ tt; inside = Every.none; apart = Apart.none })
     (record { applies = TitleFault.cut (Cut.here (lit≤ tt)); least = from-six })

@@ -23,7 +23,7 @@ use Rattle.field.specs.declared.kind.Kind.the-variants.{Integer, Counter, Time,
 use Rattle.field.specs.declared.record.Field.{Field}
 use Rattle.field.proofs.Bounds.{profile-bytes}
 use Rattle.field.proofs.Apart.{LieApart}
-use Rattle.cmf.specs.Layouts.{Component, Components, code, fieldAt, counterSettingsAt, integerAt, counterAt, timeLongAt, timeShortAt, dateLongAt, dateShortAt, switchAt, optionAt, triggerAt}
+use Rattle.cmf.specs.Layouts.{Component, Components, code, fieldWith, counterSettingsAt, integerAt, counterAt, timeLongAt, timeShortAt, dateLongAt, dateShortAt, switchAt, optionAt, triggerAt}
 use Rattle.cmf.specs.Grammar.{Line, Lines, Table, Every, Disjoint, Apart, WellFormed}
 use Rattle.cmf.specs.Readers.{componentAt}
 use Rattle.cmf.specs.Places.{heldBy}
@@ -76,7 +76,7 @@ module _ (im : List ℕ) (P : Field → Type 0) (component : (at end : ℕ) (fs 
 
 -- ---- what is read at a field's place is the field, and its default has its size
 
-pub record Standing (im : List ℕ) (f : Field) : Type 0 where
+pub record InImage (im : List ℕ) (f : Field) : Type 0 where
   pub reads : componentAt im (f .image .0) .field ≡ f
   pub sized : length (bytesOf (f .default)) ≡ sizeOf f
 
@@ -87,30 +87,30 @@ held-is c f =
     (λ _ e. let z : _≡_ {A = ℕ} 0 1 = cc in absurd (omega arith))
 
 module _ (im : List ℕ) where
-  stands-by : (at end : ℕ) (f : Field) → Component im at end (f ∷ []) → f .image .0 ≡ at → length (bytesOf (f .default)) ≡ sizeOf f → Every (Standing im) (f ∷ [])
-  stands-by at end f c e n =
+  in-image-by : (at end : ℕ) (f : Field) → Component im at end (f ∷ []) → f .image .0 ≡ at → length (bytesOf (f .default)) ≡ sizeOf f → Every (InImage im) (f ∷ [])
+  in-image-by at end f c e n =
       let r : componentAt im (f .image .0) .field ≡ f =
       ap (λ (x : ℕ). componentAt im x .field) e ∙ held-is (componentAt im at) f (agree im .component-is c .fields) in
-      let s : Standing im f = record { reads = r; sized = n } in
+      let s : InImage im f = record { reads = r; sized = n } in
       Every.add s Every.none
 
-  sized-at : (at : ℕ) (k : Kind) (d : ℕ) → length (bytesOf (fieldAt im at k d .default)) ≡ sizeOf (fieldAt im at k d)
+  sized-at : (at : ℕ) (k : Kind) (d : ℕ) → length (bytesOf (fieldWith im at k d .default)) ≡ sizeOf (fieldWith im at k d)
   sized-at at k d =
       let n = profileOf k .bytes in
       omega (arith, profile-bytes k, length-take n (fit 0 4 (partAt d n im)), length-fit 0 4 (partAt d n im))
 
-  component-standing : (at end : ℕ) (fs : List Field) → Component im at end fs → Every (Standing im) fs
+  component-in-image : (at end : ℕ) (fs : List Field) → Component im at end fs → Every (InImage im) fs
   unfolding profileOf
-  component-standing at end fs (Component.integer k l g) = stands-by at end (integerAt im at) (Component.integer k l g) refl (sized-at at (Integer (formatOf (code im at))) (at + 6))
-  component-standing at end fs (Component.counter k l g) = stands-by at end (counterAt im at) (Component.counter k l g) refl (sized-at at (Counter (counterSettingsAt im at)) (at + 12))
-  component-standing at end fs (Component.time-long k l g) = stands-by at end (timeLongAt im at) (Component.time-long k l g) refl (sized-at at (Time true) (at + 6))
-  component-standing at end fs (Component.time-short k l g) = stands-by at end (timeShortAt im at) (Component.time-short k l g) refl (sized-at at (Time false) (at + 6))
-  component-standing at end fs (Component.date-long k l g) = stands-by at end (dateLongAt im at) (Component.date-long k l g) refl (sized-at at (Date true) (at + 6))
-  component-standing at end fs (Component.date-short k l g) = stands-by at end (dateShortAt im at) (Component.date-short k l g) refl (sized-at at (Date false) (at + 6))
-  component-standing at end fs (Component.switch k l g) = stands-by at end (switchAt im at) (Component.switch k l g) refl (sized-at at (Switch (byteAt im (at + 7))) (at + 10))
-  component-standing at end fs (Component.option k l g) = stands-by at end (optionAt im at) (Component.option k l g) refl (sized-at at (Option (byteAt im (at + 7)) (byteAt im (at + 8))) (at + 9))
-  component-standing at end fs (Component.constant k e t) = Every.none
-  component-standing at end fs (Component.trigger k l) = stands-by at end (triggerAt im at) (Component.trigger k l) refl refl
+  component-in-image at end fs (Component.integer k l g) = in-image-by at end (integerAt im at) (Component.integer k l g) refl (sized-at at (Integer (formatOf (code im at))) (at + 6))
+  component-in-image at end fs (Component.counter k l g) = in-image-by at end (counterAt im at) (Component.counter k l g) refl (sized-at at (Counter (counterSettingsAt im at)) (at + 12))
+  component-in-image at end fs (Component.time-long k l g) = in-image-by at end (timeLongAt im at) (Component.time-long k l g) refl (sized-at at (Time true) (at + 6))
+  component-in-image at end fs (Component.time-short k l g) = in-image-by at end (timeShortAt im at) (Component.time-short k l g) refl (sized-at at (Time false) (at + 6))
+  component-in-image at end fs (Component.date-long k l g) = in-image-by at end (dateLongAt im at) (Component.date-long k l g) refl (sized-at at (Date true) (at + 6))
+  component-in-image at end fs (Component.date-short k l g) = in-image-by at end (dateShortAt im at) (Component.date-short k l g) refl (sized-at at (Date false) (at + 6))
+  component-in-image at end fs (Component.switch k l g) = in-image-by at end (switchAt im at) (Component.switch k l g) refl (sized-at at (Switch (byteAt im (at + 7))) (at + 10))
+  component-in-image at end fs (Component.option k l g) = in-image-by at end (optionAt im at) (Component.option k l g) refl (sized-at at (Option (byteAt im (at + 7)) (byteAt im (at + 8))) (at + 9))
+  component-in-image at end fs (Component.constant k e t) = Every.none
+  component-in-image at end fs (Component.trigger k l) = in-image-by at end (triggerAt im at) (Component.trigger k l) refl refl
 
 -- ---- apart
 
@@ -169,8 +169,8 @@ module _ (im : List ℕ) (extent : ℕ) (w : WellFormed im extent) where
   pub all-rooted : Every Rooted (w .fields)
   all-rooted = every-table im Rooted (component-rooted im) _ _ _ _ (w .table)
 
-  pub all-standing : Every (Standing im) (w .fields)
-  all-standing = every-table im (Standing im) (component-standing im) _ _ _ _ (w .table)
+  pub all-in-image : Every (InImage im) (w .fields)
+  all-in-image = every-table im (InImage im) (component-in-image im) _ _ _ _ (w .table)
 
   -- fields at different positions lie apart
   pub fields-apart : (d : Field) (i j : ℕ) → (i ≡ j → ⊥) → i < length (w .fields) → j < length (w .fields) → LieApart (getD (w .fields) i d) (getD (w .fields) j d)

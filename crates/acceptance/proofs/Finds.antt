@@ -89,7 +89,7 @@ module _ (im : List ℕ) (A : Agree im) (extent most : ℕ) where
       one = onComponent im extent most c (cameTo at lines es)
 
       others : State
-      others = onComponents im extent most (if componentAt im c .last then [] else componentsFrom im k (componentAt im c .next)) one
+      others = onComponents im extent most (if componentAt im c .last then [] else componentsFrom im k (componentAt im c .next .0)) one
 
       on : fine one ≡ true → others .progress .refusal ≡ r → PartsFault at lines es r
       on b q = by-test (componentAt im c .last) last more
@@ -107,18 +107,18 @@ module _ (im : List ℕ) (A : Agree im) (extent most : ℕ) where
           fs = heldBy (componentAt im c)
 
           aligned : Aligned im 0 at c
-          aligned = A .even-aligned at c (record { stands = e; zeroed = w .padding }) (omega (arith, v .after, v .inside))
+          aligned = A .even-aligned at c (record { is = e; zeroed = w .padding }) (omega (arith, v .after, v .inside))
 
           step : one ≡ cameTo end lines (put es fs)
           step = component-goes im A extent most c end at lines es fs (v .component) aligned (w .takes)
 
           last : componentAt im c .last ≡ true → PartsFault at lines es r
-          last l = fine-none one r pos b (rw (if-true [] (componentsFrom im k (componentAt im c .next)) l) at q)
+          last l = fine-none one r pos b (rw (if-true [] (componentsFrom im k (componentAt im c .next .0)) l) at q)
 
           more : componentAt im c .last ≡ false → PartsFault at lines es r
           more l =
-              let g = rw (step, if-false [] (componentsFrom im k (componentAt im c .next)) l) at q in
-              let x = rest (componentAt im c .next) end lines (put es fs) (v .next) (v .inside) (omega (arith, v .next, v .after)) r pos g in
+              let g = rw (step, if-false [] (componentsFrom im k (componentAt im c .next .0)) l) at q in
+              let x = rest (componentAt im c .next .0) end lines (put es fs) (v .next) (v .inside) (omega (arith, v .next, v .after)) r pos g in
               record {
                 structure = x .structure;
                 fields = fs ++ x .fields;
@@ -159,7 +159,7 @@ module _ (im : List ℕ) (A : Agree im) (extent most : ℕ) where
 
     submenu-finds :
         (p : ℕ) (s : State) (r : ℕ) → headAt im p .submenu ≡ true → onSubmenu im extent most submenu (headAt im p) s .progress .refusal ≡ r →
-        submenu (headAt im p .table) s .progress .refusal ≡ r
+        submenu (headAt im p .table .0) s .progress .refusal ≡ r
     unfolding onSubmenu
     submenu-finds p s r e f = sym (ap (λ (x : State). x .progress .refusal) (if-true _ _ e)) ∙ f
 
@@ -190,12 +190,12 @@ module _ (im : List ℕ) (A : Agree im) (extent most : ℕ) where
             step : S ≡ cameTo mid (lines + 1) es
             step = head-goes im A extent most n before p mid at lines es (h .head) (h .aligned) (h .few) (h .room)
 
-            enough : length im + 1 < headAt im p .component + (length im + 1)
+            enough : length im + 1 < headAt im p .component .0 + (length im + 1)
             enough = omega (arith, v .component, v .after)
 
             part : C .progress .refusal ≡ r → Fault (InLine im Below n before at p) lines es r
             part e =
-                let x = components-find (length im + 1) (headAt im p .component) mid (lines + 1) es (v .component) (v .inside) enough r pos e in
+                let x = components-find (length im + 1) (headAt im p .component .0) mid (lines + 1) es (v .component) (v .inside) enough r pos e in
                 record {
                   structure = x .structure;
                   fields = x .fields;
@@ -210,17 +210,17 @@ module _ (im : List ℕ) (A : Agree im) (extent most : ℕ) where
             below g e = by-test (headAt im p .submenu) deep plain
               where
                 c : Parts im A extent most mid es
-                c = components-read im A extent most (length im + 1) (headAt im p .component) mid (lines + 1) es (v .component) (v .inside) enough g
+                c = components-read im A extent most (length im + 1) (headAt im p .component .0) mid (lines + 1) es (v .component) (v .inside) enough g
 
                 past : C ≡ cameTo (c .end) (lines + 1) (put es (c .fields))
-                past = components-go im A extent most (c .components) (length im + 1) (headAt im p .component) (lines + 1) es (v .component) enough (c .takes)
+                past = components-go im A extent most (c .components) (length im + 1) (headAt im p .component .0) (lines + 1) es (v .component) enough (c .takes)
 
                 plain : headAt im p .submenu ≡ false → Fault (InLine im Below n before at p) lines es r
                 plain y = plain-none p (c .end) (lines + 1) (put es (c .fields)) r pos y (rw past at e)
 
                 deep : headAt im p .submenu ≡ true → Fault (InLine im Below n before at p) lines es r
                 deep y =
-                    let x = finds (headAt im p .table) (c .end) (lines + 1) (put es (c .fields)) (omega (arith, h .room)) r pos (submenu-finds p _ r y (rw past at e)) in
+                    let x = finds (headAt im p .table .0) (c .end) (lines + 1) (put es (c .fields)) (omega (arith, h .room)) r pos (submenu-finds p _ r y (rw past at e)) in
                     pastLine (c .fields) 1 lines es r (c .takes) x
                     (InLine.submenu mid (c .end) (h .few) (h .aligned) (h .head) (c .components) (v .submenu y)
                     (subst (λ (t : ℕ). Below t (x .structure) (x .fields) (x .count)) (v .table) (x .comes)))
@@ -248,7 +248,7 @@ module _ (im : List ℕ) (A : Agree im) (extent most : ℕ) where
         one = onLine im extent most submenu n before p (cameTo at lines es)
 
         others : State
-        others = onLines im extent most submenu (n + 1) p (if headAt im p .last then [] else linesFrom im j (headAt im p .next)) one
+        others = onLines im extent most submenu (n + 1) p (if headAt im p .last then [] else linesFrom im j (headAt im p .next .0)) one
 
         this : one .progress .refusal ≡ r → Fault (InLines im Sub Below n before at p) lines es r
         this q =
@@ -276,11 +276,11 @@ module _ (im : List ℕ) (A : Agree im) (extent most : ℕ) where
             step = line-goes im A extent most submenu Sub goes (x .line) at lines es (x .few) (x .aligned) (x .takes) (x .room)
 
             last : headAt im p .last ≡ true → Fault (InLines im Sub Below n before at p) lines es r
-            last l = fine-none one r pos b (rw (if-true [] (linesFrom im j (headAt im p .next)) l) at q)
+            last l = fine-none one r pos b (rw (if-true [] (linesFrom im j (headAt im p .next .0)) l) at q)
 
             more : headAt im p .last ≡ false → Fault (InLines im Sub Below n before at p) lines es r
             more l =
-                let g = rw (if-false [] (linesFrom im j (headAt im p .next)) l ∙ ap (linesFrom im j) (h .next), step) at q in
+                let g = rw (if-false [] (linesFrom im j (headAt im p .next .0)) l ∙ ap (linesFrom im j) (h .next), step) at q in
                 let y =
                 rest (n + 1) p (nextLine im p) (x .end) (lines + x .count) (put es (x .fields)) (omega arith) (omega (arith, x .few)) (x .room) r pos g in
                 pastLine (x .fields) (x .count) lines es r (x .takes) y (InLines.later (x .end) (x .few) (x .aligned) (x .line) (h .more l) (y .comes))
@@ -336,12 +336,12 @@ module _ (im : List ℕ) (A : Agree im) (extent most : ℕ) where
           let v = A .title-reads t z in
           let x =
           lines-find (onTable im extent most left) (Table im left) (InTable im left) (table-goes im A extent most left) (table-read im A extent most left) finds (mostLinesOfTable + 1)
-          0 0 (titleAt im t .line) end lines es refl (omega arith) few r pos (rw (title-goes im A extent most t at lines es z) at q) in
+          0 0 (titleAt im t .line .0) end lines es refl (omega arith) few r pos (rw (title-goes im A extent most t at lines es z) at q) in
           record {
             structure = x .structure;
             fields = x .fields;
             count = x .count;
-            comes = InTableOver.lines end (titleAt im t .line) (v .text) (odd-place (v .line)) (x .comes);
+            comes = InTableOver.lines end (titleAt im t .line .0) (v .text) (odd-place (v .line)) (x .comes);
             takes = x .takes;
             room = x .room;
             answers = x .answers;

@@ -67,7 +67,7 @@ module _ (im : List ℕ) (A : Agree im) (extent most : ℕ) where
     -- ---- one line
 
     -- a submenu, after which the walk goes on after the line
-    submenu-goes : (p at lines : ℕ) (es es′ : List Entry) (k : ℕ) → headAt im p .submenu ≡ true → Came (submenu (headAt im p .table) (cameTo at lines es)) k es′ →
+    submenu-goes : (p at lines : ℕ) (es es′ : List Entry) (k : ℕ) → headAt im p .submenu ≡ true → Came (submenu (headAt im p .table .0) (cameTo at lines es)) k es′ →
         onSubmenu im extent most submenu (headAt im p) (cameTo at lines es) ≡ cameTo at k es′
     unfolding onSubmenu
     submenu-goes p at lines es es′ k e c =
@@ -75,9 +75,9 @@ module _ (im : List ℕ) (A : Agree im) (extent most : ℕ) where
         ∙ ap (λ (x : ℕ). cameTo x k es′) (if-eq 0 0 at (c .end) refl)
 
     submenu-fine :
-        (p : ℕ) (s : State) → headAt im p .submenu ≡ true → fine (onSubmenu im extent most submenu (headAt im p) s) ≡ true → fine (submenu (headAt im p .table) s) ≡ true
+        (p : ℕ) (s : State) → headAt im p .submenu ≡ true → fine (onSubmenu im extent most submenu (headAt im p) s) ≡ true → fine (submenu (headAt im p .table .0) s) ≡ true
     unfolding onSubmenu fine
-    submenu-fine p s e f = rw (if-true (with (submenu (headAt im p .table) s) (pastLine (submenu (headAt im p .table) s .progress) (s .progress .at))) s e) at f
+    submenu-fine p s e f = rw (if-true (with (submenu (headAt im p .table .0) s) (pastLine (submenu (headAt im p .table .0) s .progress) (s .progress .at))) s e) at f
 
     plain-goes : (p : ℕ) (s : State) → headAt im p .submenu ≡ false → onSubmenu im extent most submenu (headAt im p) s ≡ s
     unfolding onSubmenu
@@ -92,10 +92,10 @@ module _ (im : List ℕ) (A : Agree im) (extent most : ℕ) where
     body-goes {n} {before} {p} {mid} {end} {fs} at lines es h cs few a room t =
         let r = head-reads im A h in
         let i = A .head-is h in
-        let c : headAt im p .component ≡ evenFrom mid = omega (arith, r .component, i .ends) in
+        let c : headAt im p .component .0 ≡ evenFrom mid = omega (arith, r .component, i .ends) in
         then-is (onBody im extent most submenu p) _ mid (lines + 1) es (head-goes im A extent most n before p mid at lines es h a few room)
         ∙ then-is (onSubmenu im extent most submenu (headAt im p)) _ end (lines + 1) (put es fs)
-        (components-go im A extent most cs (length im + 1) (headAt im p .component) (lines + 1) es c (omega (arith, r .after, i .ends)) t)
+        (components-go im A extent most cs (length im + 1) (headAt im p .component .0) (lines + 1) es c (omega (arith, r .after, i .ends)) t)
 
     -- a line of the grammar is taken
     pub line-goes :
@@ -107,7 +107,7 @@ module _ (im : List ℕ) (A : Agree im) (extent most : ℕ) where
     line-goes go {p = p} {end = end} (Line.submenu {fs = fs} {gs = gs} {k = k} mid h cs b s) at lines es few a t l =
         let r = head-reads im A h in
         let u = takes-split extent most fs {gs = gs} t in
-        let c = go (headAt im p .table) end (lines + 1) (put es fs) gs k (rw (r .table) s) (u .1) (omega arith) in
+        let c = go (headAt im p .table .0) end (lines + 1) (put es fs) gs k (rw (r .table) s) (u .1) (omega arith) in
         body-goes at lines es h cs few a (omega arith) (u .0)
         ∙ submenu-goes p end (lines + 1) (put es fs) (put (put es fs) gs) (lines + 1 + k) (submenu-marked im A r b) c
         ∙ stood-put end lines 1 k es fs gs
@@ -158,14 +158,14 @@ module _ (im : List ℕ) (A : Agree im) (extent most : ℕ) where
         u : Then C (onSubmenu im extent most submenu (headAt im p) C)
         u = then-fine C _ body
 
-        enough : length im + 1 < headAt im p .component + (length im + 1)
+        enough : length im + 1 < headAt im p .component .0 + (length im + 1)
         enough = omega (arith, r .component, r .after)
 
         c : Parts im A extent most mid es
-        c = components-read im A extent most (length im + 1) (headAt im p .component) mid (lines + 1) es (r .component) (r .inside) enough (u .before)
+        c = components-read im A extent most (length im + 1) (headAt im p .component .0) mid (lines + 1) es (r .component) (r .inside) enough (u .before)
 
         on : C ≡ cameTo (c .end) (lines + 1) (put es (c .fields))
-        on = components-go im A extent most (c .components) (length im + 1) (headAt im p .component) (lines + 1) es (r .component) enough (c .takes)
+        on = components-go im A extent most (c .components) (length im + 1) (headAt im p .component .0) (lines + 1) es (r .component) enough (c .takes)
 
         rest : fine (onSubmenu im extent most submenu (headAt im p) (cameTo (c .end) (lines + 1) (put es (c .fields)))) ≡ true
         rest = rw on at (u .after)
@@ -185,7 +185,7 @@ module _ (im : List ℕ) (A : Agree im) (extent most : ℕ) where
 
         deep : headAt im p .submenu ≡ true → LineRead n before p at lines es
         deep e =
-            let d = reads (headAt im p .table) (c .end) (lines + 1) (put es (c .fields)) (submenu-fine p _ e rest) in
+            let d = reads (headAt im p .table .0) (c .end) (lines + 1) (put es (c .fields)) (submenu-fine p _ e rest) in
             record {
               end = c .end;
               count = 1 + d .count;

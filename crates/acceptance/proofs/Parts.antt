@@ -25,7 +25,7 @@ module _ (im : List ℕ) where
   unfolding componentsFrom
   places-last k c e = ap (λ (cs : List ℕ). c ∷ cs) (if-true [] _ e)
 
-  pub places-more : (k c : ℕ) → componentAt im c .last ≡ false → componentsFrom im (suc k) c ≡ c ∷ componentsFrom im k (componentAt im c .next)
+  pub places-more : (k c : ℕ) → componentAt im c .last ≡ false → componentsFrom im (suc k) c ≡ c ∷ componentsFrom im k (componentAt im c .next .0)
   unfolding componentsFrom
   places-more k c e = ap (λ (cs : List ℕ). c ∷ cs) (if-false [] _ e)
 
@@ -42,19 +42,19 @@ module _ (im : List ℕ) (A : Agree im) where
   -- the turns left are enough for the component at p, the first from `at` on, and for those after it
   pub no-turns : {X : Type 0} {at p mid : ℕ} {fs : List Field} → Aligned im 0 at p → Component im p mid fs → (c : ℕ) → c ≡ evenFrom at → length im + 1 < c + 0 → X
   no-turns {p = p} a x c e h =
-      let r = A .component-reads p (A .component-is x .refusal) in absurd (omega (arith, r .after, r .inside, A .even-is a .stands))
+      let r = A .component-reads p (A .component-is x .refusal) in absurd (omega (arith, r .after, r .inside, A .even-is a .is))
 
   pub record Turn (c p mid k : ℕ) : Type 0 where
     pub here : c ≡ p
-    pub next : componentAt im p .next ≡ evenFrom mid
-    pub enough : length im + 1 < componentAt im p .next + k
+    pub next : componentAt im p .next .0 ≡ evenFrom mid
+    pub enough : length im + 1 < componentAt im p .next .0 + k
 
   pub turn :
       {at p mid : ℕ} {fs : List Field} → Aligned im 0 at p → Component im p mid fs → (k c : ℕ) → c ≡ evenFrom at → length im + 1 < c + suc k → Turn c p mid k
   turn {p = p} a x k c e h =
       let i = A .component-is x in
       let r = A .component-reads p (i .refusal) in
-      let s = A .even-is a .stands in
+      let s = A .even-is a .is in
       record { here = e ∙ sym s; next = omega (arith, r .next, i .ends); enough = omega (arith, s, r .next, r .after) }
 
 module _ (im : List ℕ) (A : Agree im) (extent most : ℕ) where
@@ -85,7 +85,7 @@ module _ (im : List ℕ) (A : Agree im) (extent most : ℕ) where
       let u = takes-split extent most fs {gs = gs} t in
       ap (λ (cs : List ℕ). onComponents im extent most cs (cameTo at lines es)) (rw (n .here) (places-more im k p (last-false im A x l)))
       ∙ walk-on p _ (cameTo at lines es) mid lines (put es fs) (component-goes im A extent most p mid at lines es fs x a (u .0))
-      ∙ components-go r k (componentAt im p .next) lines (put es fs) (n .next) (n .enough) (u .1)
+      ∙ components-go r k (componentAt im p .next .0) lines (put es fs) (n .next) (n .enough) (u .1)
       ∙ ap (cameTo end lines) (put-put es fs gs)
 
   -- what is known of components that the walk takes
@@ -108,7 +108,7 @@ module _ (im : List ℕ) (A : Agree im) (extent most : ℕ) where
       one : State
       one = onComponent im extent most c (cameTo at lines es)
 
-      t : Then one (onComponents im extent most (if componentAt im c .last then [] else componentsFrom im k (componentAt im c .next)) one)
+      t : Then one (onComponents im extent most (if componentAt im c .last then [] else componentsFrom im k (componentAt im c .next .0)) one)
       t = then-fine one _ f
 
       w : Taken im A extent most c at es
@@ -124,7 +124,7 @@ module _ (im : List ℕ) (A : Agree im) (extent most : ℕ) where
       fs = heldBy (componentAt im c)
 
       aligned : Aligned im 0 at c
-      aligned = A .even-aligned at c (record { stands = e; zeroed = w .padding }) (omega (arith, r .after, r .inside))
+      aligned = A .even-aligned at c (record { is = e; zeroed = w .padding }) (omega (arith, r .after, r .inside))
 
       step : one ≡ cameTo end lines (put es fs)
       step = component-goes im A extent most c end at lines es fs (r .component) aligned (w .takes)
@@ -134,8 +134,8 @@ module _ (im : List ℕ) (A : Agree im) (extent most : ℕ) where
 
       more : componentAt im c .last ≡ false → Parts at es
       more l =
-          let g = rw (step, if-false [] (componentsFrom im k (componentAt im c .next)) l) at (t .after) in
-          let b = rest (componentAt im c .next) end lines (put es fs) (r .next) (r .inside) (omega (arith, r .next, r .after)) g in
+          let g = rw (step, if-false [] (componentsFrom im k (componentAt im c .next .0)) l) at (t .after) in
+          let b = rest (componentAt im c .next .0) end lines (put es fs) (r .next) (r .inside) (omega (arith, r .next, r .after)) g in
           record {
             end = b .end;
             fields = fs ++ b .fields;

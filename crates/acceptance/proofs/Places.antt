@@ -43,8 +43,8 @@ module _ (im : List ℕ) (A : Agree im) where
   components-are (Components.more p mid a y l s) zero c e h = no-turns im A a y c e h
   components-are (Components.more p mid a y l s) (suc k) c e h =
       let n = turn im A a y k c e h in
-      let q : componentsFrom im (suc k) c ≡ p ∷ componentsFrom im k (componentAt im p .next) = rw (n .here) (places-more im k p (last-false im A y l)) in
-      ap (fieldsAmong im) q ∙ more-held p _ ∙ rw (A .component-is y .fields, components-are s k (componentAt im p .next) (n .next) (n .enough))
+      let q : componentsFrom im (suc k) c ≡ p ∷ componentsFrom im k (componentAt im p .next .0) = rw (n .here) (places-more im k p (last-false im A y l)) in
+      ap (fieldsAmong im) q ∙ more-held p _ ∙ rw (A .component-is y .fields, components-are s k (componentAt im p .next .0) (n .next) (n .enough))
 
   -- ---- lines
 
@@ -53,18 +53,18 @@ module _ (im : List ℕ) (A : Agree im) where
   line-parts {p = p} h cs =
       let i = A .head-is h in
       let r = A .head-reads p (i .refusal) in
-      components-are cs (length im + 1) (headAt im p .component) (omega (arith, r .component, i .ends)) (omega (arith, r .component, r .after, i .ends))
+      components-are cs (length im + 1) (headAt im p .component .0) (omega (arith, r .component, i .ends)) (omega (arith, r .component, r .after, i .ends))
 
   module _ (submenu : ℕ → List ℕ) (Sub : ℕ → List Field → ℕ → Type 0) (below : (t : ℕ) (fs : List Field) (k : ℕ) → Sub t fs k → fieldsAmong im (submenu t) ≡ fs) where
     line-are : {n before p end k : ℕ} {fs : List Field} → Line im Sub n before p end fs k → fieldsAmong im (lineReach im submenu p) ≡ fs
     unfolding lineReach fieldsAmong
     line-are {p = p} (Line.plain mid h cs b) =
         among-join im (componentsOf im p) _
-        ∙ rw (line-parts h cs, if-false (submenu (headAt im p .table)) [] (plain-marked im A (head-reads im A h) b)) (append-nil _)
+        ∙ rw (line-parts h cs, if-false (submenu (headAt im p .table .0)) [] (plain-marked im A (head-reads im A h) b)) (append-nil _)
     line-are {p = p} (Line.submenu mid h cs b s) =
         let r = head-reads im A h in
         among-join im (componentsOf im p) _
-        ∙ rw (line-parts h cs, if-true (submenu (headAt im p .table)) [] (submenu-marked im A r b), r .table, below _ _ _ s)
+        ∙ rw (line-parts h cs, if-true (submenu (headAt im p .table .0)) [] (submenu-marked im A r b), r .table, below _ _ _ s)
 
     last-line : (p : ℕ) → fieldsAmong im (linesReach im submenu (p ∷ [])) ≡ fieldsAmong im (lineReach im submenu p)
     unfolding linesReach

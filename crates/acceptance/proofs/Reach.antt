@@ -49,7 +49,7 @@ pub record LineIn (im : List ℕ) (fields : List Field) (left p : ℕ) : Type 0 
   pub refusal : headAt im p .refusal ≡ 0
   pub good : headAt im p .typeable ≡ true
   pub parts : Chain im fields (componentsOf im p)
-  pub below : headAt im p .submenu ≡ true → Reached im fields left (headAt im p .table)
+  pub below : headAt im p .submenu ≡ true → Reached im fields left (headAt im p .table .0)
 
 -- each of a line's components
 pub part-of : {im : List ℕ} {fields : List Field} {cs : List ℕ} → Chain im fields cs → (c : ℕ) → List·Memᴰ c cs → PartIn im fields c
@@ -98,7 +98,7 @@ module _ (im : List ℕ) (A : Agree im) (fields : List Field) where
   chain-here k c p q i b = rw (q, places-last im k p b) (Chain.last i b)
 
   chain-more :
-      (k c p : ℕ) → c ≡ p → PartIn im fields p → componentAt im p .last ≡ false → Chain im fields (componentsFrom im k (componentAt im p .next)) →
+      (k c p : ℕ) → c ≡ p → PartIn im fields p → componentAt im p .last ≡ false → Chain im fields (componentsFrom im k (componentAt im p .next .0)) →
       Chain im fields (componentsFrom im (suc k) c)
   chain-more k c p q i b d = rw (q, places-more im k p b) (Chain.more i b d)
 
@@ -112,22 +112,22 @@ module _ (im : List ℕ) (A : Agree im) (fields : List Field) where
   chain-of (Components.more {fs = fs} {gs = gs} p mid a y l s) (suc k) c e h am =
       let n = turn im A a y k c e h in
       chain-more k c p (n .here) (part-in y (among-left fs gs am)) (last-false im A y l)
-      (chain-of s k (componentAt im p .next) (n .next) (n .enough) (among-right fs gs am))
+      (chain-of s k (componentAt im p .next .0) (n .next) (n .enough) (among-right fs gs am))
 
   -- ---- lines
 
   body-in :
       {n before p mid end : ℕ} {fs : List Field} (left : ℕ) → Head im n before p mid → Components im mid end fs → Among fs →
-      (headAt im p .submenu ≡ true → Reached im fields left (headAt im p .table)) → LineIn im fields left p
+      (headAt im p .submenu ≡ true → Reached im fields left (headAt im p .table .0)) → LineIn im fields left p
   unfolding componentsOf
   body-in {p = p} {mid = mid} left h cs a s =
       let i = A .head-is h in
       let r = A .head-reads p (i .refusal) in
-      let c : headAt im p .component ≡ evenFrom mid = omega (arith, r .component, i .ends) in
+      let c : headAt im p .component .0 ≡ evenFrom mid = omega (arith, r .component, i .ends) in
       record {
         refusal = i .refusal;
         good = i .good;
-        parts = chain-of cs (length im + 1) (headAt im p .component) c (omega (arith, r .after, i .ends)) a;
+        parts = chain-of cs (length im + 1) (headAt im p .component .0) c (omega (arith, r .after, i .ends)) a;
         below = s;
       }
 

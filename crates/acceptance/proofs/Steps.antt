@@ -75,7 +75,7 @@ module _ (im : List ℕ) (A : Agree im) (extent most : ℕ) where
       let q = A .odd-is a in
       ap (with (cameTo at lines es))
       (if-eq (headAt im p .refusal) 0 _ _ (i .refusal)
-      ∙ if-true _ _ (and-i (eq-eqb p (oddFrom at) (q .stands)) (and-i (padded-is im at p (q .zeroed)) (agrees-is n before p end h)))
+      ∙ if-true _ _ (and-i (eq-eqb p (oddFrom at) (q .is)) (and-i (padded-is im at p (q .zeroed)) (agrees-is n before p end h)))
       ∙ if-gt mostLinesOfTable n _ _ few ∙ if-gt mostLines lines _ _ room ∙ if-true _ _ (i .good))
       ∙ ap (λ (x : ℕ). cameTo x (lines + 1) es) (i .ends)
 
@@ -100,7 +100,7 @@ module _ (im : List ℕ) (A : Agree im) (extent most : ℕ) where
     unfolding linePlaced countLine
     placed-read z e =
         let r = A .head-reads p z in
-        let q : PlaceIs im at p (oddFrom at) = record { stands = eqb-true p (oddFrom at) (and-l _ _ e); zeroed = padded-reads im at p (and-l _ _ (and-r _ _ e)) } in
+        let q : PlaceIs im at p (oddFrom at) = record { is = eqb-true p (oddFrom at) (and-l _ _ e); zeroed = padded-reads im at p (and-l _ _ (and-r _ _ e)) } in
         if-ind P (mostLinesOfTable ≤? n) (λ _ h. is-refused s 7 h)
         (λ f. if-ind P (mostLines ≤? lines) (λ _ h. is-refused s 7 h)
         (λ l. if-ind P (headAt im p .typeable)

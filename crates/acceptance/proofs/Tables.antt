@@ -27,7 +27,7 @@ pub lines-last : (im : List ℕ) (k p : ℕ) → headAt im p .last ≡ true → 
 unfolding linesFrom
 lines-last im k p e = ap (λ (ps : List ℕ). p ∷ ps) (if-true [] _ e)
 
-pub lines-more : (im : List ℕ) (k p : ℕ) → headAt im p .last ≡ false → linesFrom im (suc k) p ≡ p ∷ linesFrom im k (headAt im p .next)
+pub lines-more : (im : List ℕ) (k p : ℕ) → headAt im p .last ≡ false → linesFrom im (suc k) p ≡ p ∷ linesFrom im k (headAt im p .next .0)
 unfolding linesFrom
 lines-more im k p e = ap (λ (ps : List ℕ). p ∷ ps) (if-false [] _ e)
 
@@ -37,9 +37,9 @@ line-reads im A (Line.plain mid h cs b) = head-reads im A h
 line-reads im A (Line.submenu mid h cs b s) = head-reads im A h
 
 -- where the first line is
-pub first-line : (im : List ℕ) (A : Agree im) {Sub : ℕ → List Field → ℕ → Type 0} {t k : ℕ} {fs : List Field} (x : TableOver im Sub t fs k) → titleAt im t .line ≡ x .firstLine
+pub first-line : (im : List ℕ) (A : Agree im) {Sub : ℕ → List Field → ℕ → Type 0} {t k : ℕ} {fs : List Field} (x : TableOver im Sub t fs k) → titleAt im t .line .0 ≡ x .firstLine
 first-line im A {t = t} x =
-    let i = A .title-is (x .title) in omega (arith, A .title-reads t (i .refusal) .line, i .ends, A .odd-is (x .aligned) .stands)
+    let i = A .title-is (x .title) in omega (arith, A .title-reads t (i .refusal) .line, i .ends, A .odd-is (x .aligned) .is)
 
 -- what was reached, told otherwise
 came-by : {s r : State} {lines k : ℕ} {es fs : List Entry} → s ≡ r → lines ≡ k → es ≡ fs → Came r lines es → Came s k fs
@@ -104,7 +104,7 @@ module _ (im : List ℕ) (A : Agree im) (extent most : ℕ) where
         one : State
         one = onLine im extent most submenu n before p (cameTo at lines es)
 
-        t : Then one (onLines im extent most submenu (n + 1) p (if headAt im p .last then [] else linesFrom im j (headAt im p .next)) one)
+        t : Then one (onLines im extent most submenu (n + 1) p (if headAt im p .last then [] else linesFrom im j (headAt im p .next .0)) one)
         t = then-fine one _ f
 
         x : LineRead im A extent most submenu Sub n before p at lines es
@@ -128,7 +128,7 @@ module _ (im : List ℕ) (A : Agree im) (extent most : ℕ) where
 
         more : headAt im p .last ≡ false → LinesRead n before p at lines es
         more l =
-            let g = rw (if-false [] (linesFrom im j (headAt im p .next)) l ∙ ap (linesFrom im j) (h .next), step) at (t .after) in
+            let g = rw (if-false [] (linesFrom im j (headAt im p .next .0)) l ∙ ap (linesFrom im j) (h .next), step) at (t .after) in
             let b = rest (n + 1) p (nextLine im p) (x .end) (lines + x .count) (put es (x .fields)) (omega arith) (omega (arith, x .few)) g in
             record {
               fields = x .fields ++ b .fields;
@@ -154,7 +154,7 @@ module _ (im : List ℕ) (A : Agree im) (extent most : ℕ) where
       let i = A .title-is (x .title) in
       let s : onTitle im extent most t (cameTo at lines es) ≡ cameTo (x .titleEnd) lines es = title-goes im A extent most t at lines es (i .refusal) ∙ rw (i .ends) in
       came-by
-      (then-is (onLines im extent most (onTable im extent most left) 0 0 (linesFrom im (mostLinesOfTable + 1) (titleAt im t .line))) _ (x .titleEnd) lines es s ∙ rw (first-line im A x))
+      (then-is (onLines im extent most (onTable im extent most left) 0 0 (linesFrom im (mostLinesOfTable + 1) (titleAt im t .line .0))) _ (x .titleEnd) lines es s ∙ rw (first-line im A x))
       refl refl
       (lines-go (onTable im extent most left) (Table im left) (table-goes left) (x .lines) (mostLinesOfTable + 1) (x .titleEnd) lines es refl (x .aligned) u l)
 
@@ -173,12 +173,12 @@ module _ (im : List ℕ) (A : Agree im) (extent most : ℕ) where
       let r = A .title-reads t z in
       let end = titleAt im t .end in
       let b =
-      lines-read (onTable im extent most left) (Table im left) (table-goes left) (table-read left) (mostLinesOfTable + 1) 0 0 (titleAt im t .line) end lines es refl (omega arith)
+      lines-read (onTable im extent most left) (Table im left) (table-goes left) (table-read left) (mostLinesOfTable + 1) 0 0 (titleAt im t .line .0) end lines es refl (omega arith)
       (rw (title-goes im A extent most t at lines es z) at (w .after)) in
       record {
         fields = b .fields;
         count = b .count;
-        table = record { titleEnd = end; firstLine = titleAt im t .line; title = r .text; aligned = b .aligned; lines = b .rows };
+        table = record { titleEnd = end; firstLine = titleAt im t .line .0; title = r .text; aligned = b .aligned; lines = b .rows };
         takes = b .takes;
         few = b .room;
       }

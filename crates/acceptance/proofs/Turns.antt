@@ -28,7 +28,7 @@ then-same x y z h =
 
 -- what has to be known of the reader: a component that is not marked as the last is in the image, and the next one after it
 abbrev pub Onward : List ℕ → Type 0
-Onward im = (c : ℕ) → componentAt im c .last ≡ false → (c < length im) × (c < componentAt im c .next)
+Onward im = (c : ℕ) → componentAt im c .last ≡ false → (c < length im) × (c < componentAt im c .next .0)
 
 module _ (im : List ℕ) where
   -- ---- components
@@ -43,7 +43,7 @@ module _ (im : List ℕ) where
         let o = onward c e in
         places-more im j c e
         ∙ ap (λ (cs : List ℕ). c ∷ cs)
-        (turns-more k j (componentAt im c .next) (omega arith) (omega (arith, o .0)) (omega (arith, o .1)))
+        (turns-more k j (componentAt im c .next .0) (omega arith) (omega (arith, o .0)) (omega (arith, o .1)))
         ∙ sym (places-more im k c e))
 
     -- whatever the image and the place, as many turns as there are bytes and one are enough
@@ -87,7 +87,7 @@ module _ (im : List ℕ) where
         (same-parts c _ _ s
         (λ o r.
         let b = A .component-reads c o in
-        more-parts k j (componentAt im c .next) r (omega arith) (omega (arith, b .after, b .inside)) (omega (arith, b .next, b .after)))))
+        more-parts k j (componentAt im c .next .0) r (omega arith) (omega (arith, b .after, b .inside)) (omega (arith, b .next, b .after)))))
 
     -- the walk over a line's components comes to the same state
     pub parts-enough :
@@ -131,7 +131,7 @@ module _ (im : List ℕ) where
     more-lines (suc k) (suc j) n before p s l h m =
         by-test (headAt im p .last) (λ e. rw (lines-last im j p e, lines-last im k p e))
         (λ e. rw (lines-more im j p e, lines-more im k p e)
-        (same-rest n before p _ _ s (λ f r. more-lines k j (n + 1) p (headAt im p .next) r (omega arith) (omega arith) (omega arith))))
+        (same-rest n before p _ _ s (λ f r. more-lines k j (n + 1) p (headAt im p .next .0) r (omega arith) (omega arith) (omega arith))))
 
     -- 100 turns are enough for a table's lines
     pub lines-enough :

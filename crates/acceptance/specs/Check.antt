@@ -1,6 +1,6 @@
--- The check of an image and a sheet: 01's table of refusals, structure by structure in the order of the walk:
--- depth first, lines in order, a line's components before its submenu; the first structure at fault decides,
--- and at one structure the lowest number.
+-- The check of an image and a sheet: 01's table of refusals, structure by structure in the order of the walk,
+-- which goes from line to line, at each through its components and then down into its submenu. What it meets
+-- first is refused, and of several faults there the one with the lowest number.
 use Prim.Native.Nat.{ℕ, zero, suc, _+_}
 use mathlib.Core.Bool.{Bool, true, false}
 use mathlib.Core.List.{List, [], _∷_, _++_}
@@ -158,8 +158,8 @@ module _ (im : List ℕ) (extent most : ℕ) where
   module _ (submenu : ℕ → State → State) where
     -- a line's submenu; the walk then goes on after the line
     unfoldable pub onSubmenu : Head → State → State
-    onSubmenu h s = if h .submenu then with (submenu (h .table) s)
-        (pastLine (submenu (h .table) s .progress) (s .progress .at)) else s
+    onSubmenu h s = if h .submenu then with (submenu (h .table .0) s)
+        (pastLine (submenu (h .table .0) s .progress) (s .progress .at)) else s
 
     unfoldable pub onBody : ℕ → State → State
     onBody p s = andThen (onComponents (componentsOf im p) s)

@@ -106,7 +106,7 @@ Applies im extent fs lines (title left t) k = TitleFault im left t k
 Applies im extent fs lines (head n before at p) k = HeadFault im lines n before at p k
 Applies im extent fs lines (component at p) k = ComponentFault im extent fs at p k
 
--- ---- 01: the order of the walk: depth first, lines in order, a line's components before its submenu
+-- ---- 01: the order of the walk: from line to line, at each its components and then its submenu
 
 -- among a line's components from `at` on a structure comes after components without fault; these are the
 -- fields before it
@@ -166,7 +166,7 @@ unfoldable pub InTable : List ℕ → ℕ → ℕ → Structure → List Field �
 InTable im zero t x fs k = TitleOnly t x fs k
 InTable im (suc left) t x fs k = InTableOver im (Table im left) (InTable im left) (suc left) t x fs k
 
--- ---- 01: the first structure at fault decides, and at one structure the lowest number
+-- ---- 01: what the walk meets first is refused, and of several faults there the one of the lowest number
 
 -- the lines and fields before a structure keep the limits that a well-formed image keeps
 pub record Kept (extent lines : ℕ) (fs : List Field) : Type 0 where

@@ -1,6 +1,6 @@
 -- The reached fields in an array of numbers, three to a field, as a list of entries in the order of the walk.
 use Prim.Native.Nat.{ℕ, zero, suc, _+_, _*_, _/_}
-use mathlib.Core.List.{List, [], _∷_, _++_}
+use mathlib.Core.List.{List, [], _∷_, _++_, map}
 use lib.ListN.{length, getD, set}
 use Rattle.laws.specs.Choice.{if_then_else_, _<?_}
 use Rattle.laws.specs.Overwrite.{fit}
@@ -25,6 +25,10 @@ entryAt xs k = if k <? capacity xs then entry (getD xs (3 * k) 0) (getD xs (3 * 
 unfoldable pub listed : List ℕ → ℕ → List Entry
 listed xs zero = []
 listed xs (suc k) = listed xs k ++ (entryAt xs k ∷ [])
+
+-- and their image places
+abbrev pub placesIn : List ℕ → ℕ → List ℕ
+placesIn xs k = map (λ (e : Entry). e .place .0) (listed xs k)
 
 -- the array with its k-th entry set; as it was past the capacity
 unfoldable pub withEntry : List ℕ → ℕ → Entry → List ℕ

@@ -5,9 +5,10 @@ use mathlib.Core.Bool.{true, false}
 use mathlib.Core.List.{List}
 use lib.ListN.{length}
 use Rattle.laws.specs.Bytes.{byteAt}
+use Rattle.laws.specs.Choice.{if_then_else_, _=?_}
 use Rattle.field.specs.declared.record.Field.{Field}
-use Rattle.cmf.specs.Layouts.{Text, Aligned, Component, lastBit}
-use Rattle.cmf.specs.Grammar.{Head, isLast, hasSubmenu, nextLine, submenuTable}
+use Rattle.cmf.specs.Layouts.{Text, Aligned, Component, code, editBit, lastBit}
+use Rattle.cmf.specs.Grammar.{Head, Password, isLast, hasSubmenu, hasPassword, nextLine, submenuTable, passwordAt}
 use Rattle.cmf.specs.Readers.{oddFrom, evenFrom, titleAt, headAt, componentAt}
 use Rattle.cmf.specs.Places.{heldBy}
 
@@ -22,7 +23,8 @@ pub record ComponentReads (im : List ℕ) (at : ℕ) : Type 0 where
   pub component : Component im at (componentAt im at .end) (heldBy (componentAt im at))
   pub last : componentAt im at .last ≡ true → lastBit im at ≡ 1
   pub more : componentAt im at .last ≡ false → lastBit im at ≡ 0
-  pub next : componentAt im at .next ≡ evenFrom (componentAt im at .end)
+  pub editable : componentAt im at .editable ≡ (if code im at =? 0x17 then true else editBit im at =? 1)
+  pub next : componentAt im at .next .0 ≡ evenFrom (componentAt im at .end)
   pub after : at < componentAt im at .end
   pub inside : componentAt im at .end ≤ length im
 
@@ -45,16 +47,19 @@ pub record HeadReads (im : List ℕ) (p : ℕ) : Type 0 where
   pub more : headAt im p .last ≡ false → isLast im p ≡ 0
   pub submenu : headAt im p .submenu ≡ true → hasSubmenu im p ≡ 1
   pub plain : headAt im p .submenu ≡ false → hasSubmenu im p ≡ 0
-  pub next : headAt im p .next ≡ nextLine im p
-  pub table : headAt im p .table ≡ submenuTable im p
-  pub component : headAt im p .component ≡ evenFrom (headAt im p .end)
+  pub next : headAt im p .next .0 ≡ nextLine im p
+  pub table : headAt im p .table .0 ≡ submenuTable im p
+  pub protected : headAt im p .protected ≡ (hasPassword im p =? 1)
+  pub place : headAt im p .password .0 ≡ passwordAt im p
+  pub password : headAt im p .typeable ≡ true → Password im p (headAt im p .end)
+  pub component : headAt im p .component .0 ≡ evenFrom (headAt im p .end)
   pub after : p < headAt im p .end
   pub inside : headAt im p .end ≤ length im
 
 -- what is known of a title that reads with code 0
 pub record TitleReads (im : List ℕ) (at : ℕ) : Type 0 where
   pub text : Text im at (titleAt im at .end)
-  pub line : titleAt im at .line ≡ oddFrom (titleAt im at .end)
+  pub line : titleAt im at .line .0 ≡ oddFrom (titleAt im at .end)
 
 -- what a text of the grammar reads as, where a title is expected
 pub record TitleIs (im : List ℕ) (at end : ℕ) : Type 0 where
@@ -63,7 +68,7 @@ pub record TitleIs (im : List ℕ) (at end : ℕ) : Type 0 where
 
 -- a place that is aligned after another
 pub record PlaceIs (im : List ℕ) (at place from : ℕ) : Type 0 where
-  pub stands : place ≡ from
+  pub is : place ≡ from
   pub zeroed : (at ≡ place → ⊥) → byteAt im at ≡ 0
 
 -- the readers and the grammar agree

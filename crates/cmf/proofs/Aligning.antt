@@ -11,7 +11,7 @@ use Rattle.cmf.proofs.Agreement.{PlaceIs}
 module _ {im : List ℕ} where
   -- a place that is aligned, where it should be
   is : {parity at place from : ℕ} → Aligned im parity at place → place ≡ from → PlaceIs im at place from
-  is a e = record { stands = e; zeroed = λ n. a .zeroed (later (a .after) n) }
+  is a e = record { is = e; zeroed = λ n. a .zeroed (later (a .after) n) }
     where
       later : {at place : ℕ} → at ≤ place → (at ≡ place → ⊥) → at < place
       later l n = omega arith
@@ -29,7 +29,7 @@ module _ (im : List ℕ) where
   aligned :
       (parity at place from : ℕ) → PlaceIs im at place from → place < length im → at ≤ from → from ≤ at + 1 → from % 2 ≡ parity → Aligned im parity at place
   aligned parity at place from p i l u e =
-      let s : place ≡ from = p .stands in
+      let s : place ≡ from = p .is in
       record {
         agrees = rw s e;
         after = omega arith;

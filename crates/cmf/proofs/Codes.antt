@@ -18,7 +18,7 @@ use Rattle.field.specs.Sheet.{sizeOf}
 use Rattle.field.specs.Settings.{settingsFit, kindFits}
 use Rattle.field.specs.declared.kind.Kind.the-variants.{Integer}
 use Rattle.field.specs.declared.record.Field.{Field}
-use Rattle.cmf.specs.Layouts.{Texts, Component, FixedLayout, code, GoodSettings, editBit, lastBit, fieldAt}
+use Rattle.cmf.specs.Layouts.{Texts, Component, FixedLayout, code, GoodSettings, editBit, lastBit, fieldWith}
 use Rattle.cmf.specs.Readers.{runOf, fixedBytes, textCount, given, kindAt, defaultPlace, sheetPlaceAt, fieldBy, componentAt}
 use Rattle.cmf.specs.declared.text.Run.{Run}
 use Rattle.cmf.proofs.Agreement.{ComponentIs, ComponentReads}
@@ -37,7 +37,7 @@ module _ (im : List ℕ) where
 
   -- the field of an integer's code
   abbrev pub integerBy : ℕ → ℕ → Field
-  integerBy at c = fieldAt im at (Integer (formatOf c)) (at + 6)
+  integerBy at c = fieldWith im at (Integer (formatOf c)) (at + 6)
 
   pub integer-field : (at c : ℕ) → c ≤ 0x0a → fieldBy im at c ≡ integerBy at c
   unfolding kindAt defaultPlace sheetPlaceAt if_then_else_
@@ -231,6 +231,7 @@ module _ (im : List ℕ) where
         component = rw e (made at _ _ (a .gives) a);
         last = rw e (λ t. eqb-true _ 1 t);
         more = rw e (λ t. omega (arith, eqb-false (lastBit im at) 1 t));
+        editable = rw e;
         next = rw e;
         after = rw e (laid-after im a);
         inside = rw e (laid-inside im a);

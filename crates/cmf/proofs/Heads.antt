@@ -174,6 +174,9 @@ module _ (im : List ℕ) where
         plain = rw e (λ t. omega (arith, eqb-false (hasSubmenu im p) 1 t));
         next = rw e;
         table = rw e;
+        protected = rw (e, one-password p (h .protects));
+        place = rw e;
+        password = rw e (λ g. laid-password h g);
         component = rw e;
         after = rw e (omega (arith, texts-after (h .word .texts)));
         inside = rw e (texts-inside (h .word .texts) (h .options));

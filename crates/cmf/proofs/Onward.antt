@@ -32,7 +32,7 @@ fixed-some code edit =
 
 module _ (im : List ℕ) (c : ℕ) where
   abbrev P : Component → Type 0
-  P x = x .last ≡ false → c < x .next
+  P x = x .last ≡ false → c < x .next .0
 
   laid-onward : (code tag : ℕ) → P (laidOut im c code tag (textsFrom im (textCount im c code) (c + fixedBytes code (tagBit 32 tag)) 0))
   unfolding laidOut
@@ -46,10 +46,10 @@ module _ (im : List ℕ) (c : ℕ) where
       (λ _ h. absurd (true≢false h)))
       (λ _ h. absurd (true≢false h))
 
-  pub component-onward : componentAt im c .last ≡ false → (c < length im) × (c < componentAt im c .next)
+  pub component-onward : componentAt im c .last ≡ false → (c < length im) × (c < componentAt im c .next .0)
   unfolding componentAt componentBy
   component-onward =
-      if-ind (λ (x : Component). x .last ≡ false → (c < length im) × (c < x .next)) (c <? length im)
+      if-ind (λ (x : Component). x .last ≡ false → (c < length im) × (c < x .next .0)) (c <? length im)
       (λ e h. (
         ltb-true c (length im) e,
         if-ind P ((byteAt im c % 32) <? 0x18) (λ _. laid-onward (byteAt im c % 32) (byteAt im c)) (λ _ g. absurd (true≢false g)) h,

@@ -129,7 +129,7 @@ module _ (im : List ℕ) (at : ℕ) where
 
       go : Row → ComponentCut im at
       go (Row.form x) = ComponentCut.form x (Beyond.fixed (omega (arith, form-is x .fixed, some)))
-      go (Row.later x) = ComponentCut.later x (Beyond.fixed (last (later-is x)))
+      go (Row.later x) = ComponentCut.not-covered x (Beyond.fixed (last (later-is x)))
         where
           last : {b t : ℕ} → LaterIs b t → length im < at + b
           last (LaterIs.known k f t g) = omega (arith, some)
@@ -140,7 +140,7 @@ module _ (im : List ℕ) (at : ℕ) where
     where
       go : Row → ComponentCut im at
       go (Row.form x) = let i = form-is x in ComponentCut.form x (rw (i .fixed, i .texts) at b)
-      go (Row.later x) = ComponentCut.later x (last (later-is x))
+      go (Row.later x) = ComponentCut.not-covered x (last (later-is x))
         where
           last : {n t : ℕ} → LaterIs n t → Beyond im at n t
           last (LaterIs.known k f t g) = rw (f, t) at b
@@ -153,7 +153,7 @@ module _ (im : List ℕ) (at : ℕ) where
 
   uncut : c < 0x18 → at + fixedBytes c e ≤ length im → T .fits ≡ true → ComponentCut im at → ⊥
   uncut k i f (ComponentCut.form x b) = let s = form-is x in all-in i f (rw (s .fixed, s .texts) b)
-  uncut k i f (ComponentCut.later x b) = go (later-is x) b
+  uncut k i f (ComponentCut.not-covered x b) = go (later-is x) b
     where
       go : {n t : ℕ} → LaterIs n t → Beyond im at n t → ⊥
       go (LaterIs.known _ u v g) y = all-in i f (rw (u, v) y)
@@ -162,7 +162,7 @@ module _ (im : List ℕ) (at : ℕ) where
   -- nor is a tag in the image that has no meaning
   tagged : at < length im → 0x18 ≤ c → ComponentCut im at → ⊥
   tagged i l (ComponentCut.form x b) = omega (arith, form-is x .known)
-  tagged i l (ComponentCut.later x b) = go (later-is x) b
+  tagged i l (ComponentCut.not-covered x b) = go (later-is x) b
     where
       go : {n t : ℕ} → LaterIs n t → Beyond im at n t → ⊥
       go (LaterIs.known k u v g) y = omega arith
@@ -173,7 +173,7 @@ module _ (im : List ℕ) (at : ℕ) where
 
   right : c < 0x18 → given im at c e T ≡ true → ComponentWrong im at → ⊥
   unfolding fixedBytes textCount given _and_ if_then_else_
-  right l g (ComponentWrong.later x) = go (later-is x)
+  right l g (ComponentWrong.not-covered x) = go (later-is x)
     where
       go : {n t : ℕ} → LaterIs n t → ⊥
       go (LaterIs.known k u v n) = clash g (n T)
@@ -208,7 +208,7 @@ module _ (im : List ℕ) (at : ℕ) where
   amiss f g = go row
     where
       go : Row → ComponentWrong im at
-      go (Row.later x) = ComponentWrong.later x
+      go (Row.later x) = ComponentWrong.not-covered x
       go (Row.form x) = miss x f g
 
   -- ---- the reader
@@ -260,7 +260,7 @@ module _ (im : List ℕ) (at : ℕ) where
     where
       go : Row → View (componentRead im at c (byteAt im at) end)
       go (Row.form x) = formed end u r x
-      go (Row.later x) = absurd (r (ComponentWrong.later x))
+      go (Row.later x) = absurd (r (ComponentWrong.not-covered x))
 
   laid-view : at < length im → c < 0x18 → View (laidOut im at c (byteAt im at) T)
   unfolding laidOut
@@ -278,5 +278,5 @@ module _ (im : List ℕ) (at : ℕ) where
       if-ind View (at <? length im)
       (λ i. let h = ltb-true at (length im) i in
       if-ind View (c <? 0x18) (λ k. laid-view h (ltb-true c 0x18 k))
-      (λ k. let l = ltb-false c 0x18 k in View.wrong (tagged h l) (ComponentWrong.later (NotCovered.no-code l)) refl refl))
+      (λ k. let l = ltb-false c 0x18 k in View.wrong (tagged h l) (ComponentWrong.not-covered (NotCovered.no-code l)) refl refl))
       (λ i. View.cut (out-cut (ltb-false at (length im) i)) refl)

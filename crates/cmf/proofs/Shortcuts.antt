@@ -102,7 +102,7 @@ module _ (tag : ℕ) (constant : tagBit 32 tag ≡ 0) where
 
   -- no field, and nothing of it can be bad
   pub string-read : (im : List ℕ) (at end : ℕ)
-      → record { refusal = 0; last = tagBit 128 tag =? 1; editable = false; fielded = false; field = record { image = record { 0 = at }; sheet = record { 0 = 0 }; kind = Trigger; default = valueOf 0 [] }; end = end; next = evenFrom end }
+      → record { refusal = 0; last = tagBit 128 tag =? 1; editable = false; fielded = false; field = record { image = record { 0 = at }; sheet = record { 0 = 0 }; kind = Trigger; default = valueOf 0 [] }; end = end; next = record { 0 = evenFrom end } }
       ≡ componentRead im at 0x15 tag end
   unfolding kindAt sheetPlaceAt defaultPlace profileOf if_then_else_ fit
   string-read im at end = rw (constant, trigger-fits)

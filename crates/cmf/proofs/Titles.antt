@@ -14,7 +14,7 @@ use Rattle.cmf.proofs.Runs.{text-texts, texts-text, texts-run, texts-re
 
 module _ {im : List ℕ} where
   -- a text is read as a title, and so leads to the first line
-  read : {at end : ℕ} → Text im at end → titleAt im at ≡ record { refusal = 0; end = end; line = oddFrom end }
+  read : {at end : ℕ} → Text im at end → titleAt im at ≡ record { refusal = 0; end = end; line = record { 0 = oddFrom end } }
   unfolding titleAt titleBy
   read t = rw (texts-run im (text-texts t)) (if-true _ _ refl)
 

@@ -136,13 +136,13 @@ bits-le (suc (suc a)) b h k = absurd (omega arith)
 -- ---- lines
 
 module _ (im : List ℕ) where
-  pub line-turn : (left p q : ℕ) → 0 < left → q ≡ headAt im p .next → lineFrom im (left - 1) q ≡ lineFrom im left p
+  pub line-turn : (left p q : ℕ) → 0 < left → q ≡ headAt im p .next .0 → lineFrom im (left - 1) q ≡ lineFrom im left p
   unfolding lineFrom
   line-turn zero p q a e = absurd (omega arith)
   line-turn (suc n) p q a e = let z : suc n - 1 ≡ n = omega arith in rw (z, e)
 
   -- how many lines are left when n of the hundred are passed
-  lines-here : (n p q : ℕ) (last : Bool) → n < 100 → last ≡ headAt im p .last → q ≡ headAt im p .next
+  lines-here : (n p q : ℕ) (last : Bool) → n < 100 → last ≡ headAt im p .last → q ≡ headAt im p .next .0
       → length (linesFrom im (100 - n) p) ≡ 1 + length (if last then [] else linesFrom im (100 - (n + 1)) q)
   unfolding linesFrom
   lines-here n p q last a e f =
@@ -151,9 +151,9 @@ module _ (im : List ℕ) where
 
   pub count-last : (n p : ℕ) → n < 100 → true ≡ headAt im p .last → n + length (linesFrom im (100 - n) p) ≡ n + 1
   unfolding if_then_else_
-  count-last n p a l = rw (lines-here n p (headAt im p .next) true a l refl)
+  count-last n p a l = rw (lines-here n p (headAt im p .next .0) true a l refl)
 
-  pub count-next : (n p q : ℕ) → n < 100 → false ≡ headAt im p .last → q ≡ headAt im p .next
+  pub count-next : (n p q : ℕ) → n < 100 → false ≡ headAt im p .last → q ≡ headAt im p .next .0
       → n + length (linesFrom im (100 - n) p) ≡ n + 1 + length (linesFrom im (100 - (n + 1)) q)
   unfolding if_then_else_
   count-next n p q a l e = let h = lines-here n p q false a l e in omega arith

@@ -78,12 +78,13 @@ pub data Beyond (im : List ℕ) (at bytes texts : ℕ) : Type 0 where
 pub data ComponentCut (im : List ℕ) (at : ℕ) : Type 0 where
   form : {bytes texts : ℕ} {fs : List Field} → Form im at bytes texts fs → Beyond im at bytes texts
       → ComponentCut im at
-  later : {bytes texts : ℕ} → NotCovered im at bytes texts → Beyond im at bytes texts → ComponentCut im at
+  not-covered : {bytes texts : ℕ} → NotCovered im at bytes texts → Beyond im at bytes texts
+      → ComponentCut im at
 
 -- 01, row 7: the component at a place is a form left for later or has no form; R16: or its length is not its
 -- size, or an option's field-width not the length of its longest item
 pub data ComponentWrong (im : List ℕ) (at : ℕ) : Type 0 where
-  later : {bytes texts : ℕ} → NotCovered im at bytes texts → ComponentWrong im at
+  not-covered : {bytes texts : ℕ} → NotCovered im at bytes texts → ComponentWrong im at
   switch-length :
       {end longest : ℕ} → code im at ≡ 0x13 → Texts im (byteAt im (at + 7)) (at + 14) end longest →
       (end ≡ at + byteAt im (at + 6) → ⊥) → ComponentWrong im at

@@ -1,6 +1,7 @@
 -- Which images are well formed: section 7's figures 2 and 3 and 01's limits, as relations between places of
 -- the image. Written from the papers, apart from the check: nothing here has a state, an order of checks or a
--- refusal. What row 9 asks of a field's settings is crate field's `settingsFit`, for grammar and check alike.
+-- refusal. Formats, sizes and values of fields, and what row 9 asks of their settings (`settingsFit`), are
+-- crate field's, for grammar and check alike.
 use Prim.Native.Nat.{ℕ, zero, suc, _+_, _-_, _*_, _^_, _≤_, _<_}
 use mathlib.Core.Path.{_≡_}
 use mathlib.Core.List.{List, [], _∷_, _++_}

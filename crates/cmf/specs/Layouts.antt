@@ -59,8 +59,8 @@ lastBit im at = bit 7 (byteAt im at)
 
 -- 7.5: after tag:1, update:1 and call-addr:2 comes var-addr:2, the field's place in the sheet; its default is
 -- at d and has as many bytes as its value in the sheet
-abbrev pub fieldAt : List ℕ → ℕ → Kind → ℕ → Field
-fieldAt im at k d = record {
+abbrev pub fieldWith : List ℕ → ℕ → Kind → ℕ → Field
+fieldWith im at k d = record {
   image = record { 0 = at };
   sheet = record { 0 = wordAt im (at + 4) };
   kind = k;
@@ -69,7 +69,7 @@ fieldAt im at k d = record {
 
 -- 7.5.1 to 7.5.11: the code gives the format
 abbrev pub integerAt : List ℕ → ℕ → Field
-integerAt im at = fieldAt im at (Integer (formatOf (code im at))) (at + 6)
+integerAt im at = fieldWith im at (Integer (formatOf (code im at))) (at + 6)
 
 -- 7.5.14, R2: min, max and step are signed; min and max are kept with 32,768 added
 abbrev pub counterSettingsAt : List ℕ → ℕ → CounterSettings
@@ -81,29 +81,29 @@ counterSettingsAt im at = record {
 }
 
 abbrev pub counterAt : List ℕ → ℕ → Field
-counterAt im at = fieldAt im at (Counter (counterSettingsAt im at)) (at + 12)
+counterAt im at = fieldWith im at (Counter (counterSettingsAt im at)) (at + 12)
 
 -- 7.5.16, 7.5.17, R3: with seconds or without
 abbrev pub timeLongAt : List ℕ → ℕ → Field
-timeLongAt im at = fieldAt im at (Time true) (at + 6)
+timeLongAt im at = fieldWith im at (Time true) (at + 6)
 
 abbrev pub timeShortAt : List ℕ → ℕ → Field
-timeShortAt im at = fieldAt im at (Time false) (at + 6)
+timeShortAt im at = fieldWith im at (Time false) (at + 6)
 
 -- 7.5.18, 7.5.19, R5: with a year of two bytes or one
 abbrev pub dateLongAt : List ℕ → ℕ → Field
-dateLongAt im at = fieldAt im at (Date true) (at + 6)
+dateLongAt im at = fieldWith im at (Date true) (at + 6)
 
 abbrev pub dateShortAt : List ℕ → ℕ → Field
-dateShortAt im at = fieldAt im at (Date false) (at + 6)
+dateShortAt im at = fieldWith im at (Date false) (at + 6)
 
 -- 7.5.20: nswitch bits; on-char and off-char are read past, since 01 shows '1' and '0'
 abbrev pub switchAt : List ℕ → ℕ → Field
-switchAt im at = fieldAt im at (Switch (byteAt im (at + 7))) (at + 10)
+switchAt im at = fieldWith im at (Switch (byteAt im (at + 7))) (at + 10)
 
 -- 7.5.21, R1: nopts items, field-width wide
 abbrev pub optionAt : List ℕ → ℕ → Field
-optionAt im at = fieldAt im at (Option (byteAt im (at + 7)) (byteAt im (at + 8))) (at + 9)
+optionAt im at = fieldWith im at (Option (byteAt im (at + 7)) (byteAt im (at + 8))) (at + 9)
 
 -- 7.5.24, R18: a trigger has no bytes in the sheet and no var-addr; its place there is put down as 0, its
 -- default as no bytes

@@ -23,6 +23,6 @@ longestPassword = 8
 abbrev pub longestSheet : ℕ
 longestSheet = 4096
 
--- 7.2: its bytes; the top table follows them
+-- 01, Image, and 7.3: its bytes; the top table follows them
 abbrev pub prologBytes : ℕ
 prologBytes = 10

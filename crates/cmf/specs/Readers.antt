@@ -1,8 +1,8 @@
 -- What a reader finds at a place, whatever the bytes: section 7's layouts in the order in which they are
 -- read. A refusal of 6 says that not all of the thing is in the image, 7 that section 7 does not give it or
--- 01 leaves it for later, 9 (of a component) that its settings are bad. A head with a bad password is no
--- refusal yet, since 8 comes between: it is not `typeable`. What is refused with 6 or 7 reads as the last of
--- its list and leads nowhere.
+-- 01 leaves it for later, 9 (of a component) that its settings are bad. Whether a head's
+-- password is a good one is told apart, by `typeable`. What is refused with 6 or 7 reads as the last of its
+-- list and leads nowhere.
 use Prim.Native.Nat.{ℕ, zero, suc, _+_, _-_, _*_, _/_, _%_, max}
 use mathlib.Core.Bool.{Bool, true, false}
 use mathlib.Core.List.{List, []}
@@ -81,11 +81,11 @@ textBytes im at = if room (length im) at (1 + byteAt im at) then partAt (at + 1)
 -- ---- 7.2: a table's title
 
 abbrev pub titleRefused : ℕ → Title
-titleRefused at = record { refusal = 6; end = at; line = at }
+titleRefused at = record { refusal = 6; end = at; line = record { 0 = at } }
 
 -- where it ends, and where the first line is
 unfoldable pub titleBy : ℕ → Run → Title
-titleBy at t = if t .fits then record { refusal = 0; end = t .end; line = oddFrom (t .end) }
+titleBy at t = if t .fits then record { refusal = 0; end = t .end; line = record { 0 = oddFrom (t .end) } }
     else titleRefused at
 
 unfoldable pub titleAt : List ℕ → ℕ → Title
@@ -102,11 +102,11 @@ headRefused p k = record {
   submenu = false;
   protected = false;
   back = 0;
-  next = p;
-  table = p;
-  password = p;
+  next = record { 0 = p };
+  table = record { 0 = p };
+  password = record { 0 = p };
   end = p;
-  component = p;
+  component = record { 0 = p };
 }
 
 -- figure 3: after the tag next-line-ofs unless last (2), prev-line-ofs unless first (1), an enable address if
@@ -134,11 +134,11 @@ headRead im p tag end = record {
   submenu = tagBit 8 tag =? 1;
   protected = passwords tag =? 1;
   back = wordAt im (backPlace p tag);
-  next = p + wordAt im (p + 1);
-  table = prologBytes + wordAt im (submenuPlace p tag);
-  password = optionsEnd p tag;
+  next = record { 0 = p + wordAt im (p + 1) };
+  table = record { 0 = prologBytes + wordAt im (submenuPlace p tag) };
+  password = record { 0 = optionsEnd p tag };
   end = end;
-  component = evenFrom end;
+  component = record { 0 = evenFrom end };
 }
 
 -- R9: a password bit without a submenu is 7, once all options are there
@@ -248,7 +248,7 @@ componentRefused im at k = record {
   fielded = false;
   field = fieldBy im at 0x17;
   end = at;
-  next = at;
+  next = record { 0 = at };
 }
 
 -- the component that ends at `end`; 01, Fields: a trigger is editable whatever its edit bit
@@ -260,7 +260,7 @@ componentRead im at code tag end = record {
   fielded = if code =? 0x15 then false else true;
   field = fieldBy im at code;
   end = end;
-  next = evenFrom end;
+  next = record { 0 = evenFrom end };
 }
 
 unfoldable pub laidOut : List ℕ → ℕ → ℕ → ℕ → Run → Component

@@ -1,4 +1,4 @@
-// A component of a line: by its code how many bytes it has, which texts follow, and which field it is.
+// A component of a line, and the field that it is.
 ghost use mathlib.Core.Path.{_≡_};
 ghost use Prim.Native.Nat.{_+_, _%_, _<_, _≤_};
 ghost use lib.ListN.{length};
@@ -9,11 +9,15 @@ ghost use Rattle.laws.specs.Bytes.{wordAt, room};
 ghost use Rattle.field.specs.Cells.{biased};
 ghost use Rattle.field.specs.Settings.{settingsFit};
 ghost use Rattle.field.specs.Values.{valueOf, valueAt};
-ghost use Rattle.cmf.specs.Readers.{tagBit, fixedBytes, textCount, given, counterOf, kindAt};
+ghost use Rattle.cmf.specs.Readers.{tagBit, fixedBytes, counterOf, kindAt};
 ghost use Rattle.cmf.specs.Readers.{sheetPlaceAt, fieldBy, componentRefused, componentRead, laidOut};
 ghost use Rattle.cmf.specs.Readers.{componentBy, componentAt};
 use crate::image::Image;
 use crate::image::word_in;
+use crate::layout::fixed_bytes;
+use crate::layout::is_given;
+use crate::layout::option_given;
+use crate::layout::text_count;
 use crate::text::ITEMS;
 use crate::text::Run;
 use crate::text::read_texts;
@@ -30,7 +34,7 @@ use laws::byte_at;
 use laws::room;
 use laws::word_at;
 
-// refusal: 0, or 6, 7 or 9. holds: it is a field, and no constant string. next: the place of the next
+// refusal: 0, or 6, 7 or 9. fielded: it is a field, and no constant string. next: the place of the next
 // component.
 pub struct Component {
     pub refusal: u8,
@@ -39,93 +43,7 @@ pub struct Component {
     pub fielded: bool,
     pub field: Field,
     pub end: usize,
-    pub next: usize,
-}
-
-// The bytes before a component's texts, its tag among them.
-fn fixed_bytes(code: u8, edit: u8) -> usize
-    ensures { λ r. ⌜ (r ≡ fixedBytes code edit) × (r ≤ 23) ⌝ }
-{
-    if code <= 0x04 {
-        return 7;
-    }
-    if code <= 0x0a {
-        return 8;
-    }
-    if code <= 0x0c {
-        return 10;
-    }
-    match code {
-        0x0d => 15,
-        0x0e => 23,
-        0x0f => 9,
-        0x10 => 8,
-        0x11 => 10,
-        0x12 => 9,
-        0x13 => 14,
-        0x14 => 10,
-        0x15 => {
-            if edit == 1 {
-                return 6;
-            }
-            1
-        }
-        _ => 4,
-    }
-}
-
-// How many texts follow them.
-fn text_count(image: &[u8], at: usize, code: u8) -> usize
-    requires { ⌜ at < length (now image) ⌝ }
-    ensures { λ r. ⌜ r ≡ textCount (now (image .entry)) at code ⌝ }
-{
-    if code < 0x13 {
-        return 0;
-    }
-    if code <= 0x14 {
-        return byte_at(image, at + 7) as usize;
-    }
-    if code <= 0x16 {
-        return 1;
-    }
-    0
-}
-
-// Whether length and field-width of an option agree with its items.
-fn option_given(image: &[u8], at: usize, t: Run) -> bool
-    requires { ⌜ at < length (now image) ⌝ }
-    ensures { λ r. ⌜ r ≡ given (now (image .entry)) at 0x14 0 t ⌝ }
-{
-    let length = byte_at(image, at + 6) as usize;
-    let width = byte_at(image, at + 8);
-    if at + length == t.end {
-        return width == t.longest;
-    }
-    false
-}
-
-// Whether section 7 gives the component, which is no option, and it is not left for later.
-fn is_given(image: &[u8], at: usize, code: u8, edit: u8, t: Run) -> bool
-    requires { ⌜ (at < length (now image)) × (code ≡ 0x14 → ⊥) ⌝ }
-    ensures { λ r. ⌜ r ≡ given (now (image .entry)) at code edit t ⌝ }
-{
-    if code <= 0x0a {
-        return true;
-    }
-    if code == 0x0d {
-        return true;
-    }
-    if code < 0x0f {
-        return false;
-    }
-    if code <= 0x12 {
-        return true;
-    }
-    match code {
-        0x13 => at + byte_at(image, at + 6) as usize == t.end,
-        0x15 => edit == 0,
-        _ => code == 0x17,
-    }
+    pub next: ImagePlace,
 }
 
 fn bias(x: u16) -> u16
@@ -177,20 +95,20 @@ fn trigger(at: usize, sheet: usize) -> Field
 }
 
 // A field of this kind whose default is in so many bytes, so far after its tag.
-fn field_of(image: &[u8], at: usize, kind: Kind, behind: usize, count: u8) -> Field
-    requires { ⌜ (at < length (now image)) × (behind ≤ 12) ⌝ }
+fn field_of(image: &[u8], at: usize, kind: Kind, offset: usize, count: u8) -> Field
+    requires { ⌜ (at < length (now image)) × (offset ≤ 12) ⌝ }
     ensures { λ r. ⌜ r ≡ record {
       image = record { 0 = at };
       sheet = record { 0 = wordAt (now (image .entry)) (at + 4) };
       kind = kind;
-      default = valueAt (at + behind) count (now (image .entry));
+      default = valueAt (at + offset) count (now (image .entry));
     } ⌝ }
 {
     Field {
         image: ImagePlace(at),
         sheet: SheetPlace(word_at(image, at + 4) as usize),
         kind,
-        default: value_at(image, at + behind, count),
+        default: value_at(image, at + offset, count),
     }
 }
 
@@ -217,18 +135,18 @@ fn field_by(image: &[u8], at: usize, code: u8) -> Field
 }
 
 impl Component {
-    // Not all there, or no component: the last of its line, and it leads nowhere.
-    fn refused(image: &[u8], at: usize, code: u8) -> Self
-        ensures { λ r. ⌜ r ≡ componentRefused (now (image .entry)) at code ⌝ }
+    // Not all there, or not given: the last of its line, and it leads nowhere.
+    fn refused(image: &[u8], at: usize, refusal: u8) -> Self
+        ensures { λ r. ⌜ r ≡ componentRefused (now (image .entry)) at refusal ⌝ }
     {
         Component {
-            refusal: code,
+            refusal,
             last: true,
             editable: false,
             fielded: false,
             field: trigger(at, 0),
             end: at,
-            next: at,
+            next: ImagePlace(at),
         }
     }
 }
@@ -274,7 +192,7 @@ fn component_read(image: &[u8], at: usize, code: u8, tag: u8, end: usize) -> Com
         fielded: is_field(code),
         field,
         end,
-        next: end + end % 2,
+        next: ImagePlace(end + end % 2),
     }
 }
 
@@ -327,7 +245,7 @@ fn string_by(image: &[u8], at: usize, tag: u8) -> Component
             fielded: false,
             field: trigger(at, 0),
             end,
-            next: end + end % 2,
+            next: ImagePlace(end + end % 2),
         };
     }
     Component::refused(image, at, 6)
@@ -370,7 +288,7 @@ fn option_read(image: &[u8], at: usize, tag: u8, end: usize) -> Component
         fielded: true,
         field: option_field(image, at),
         end,
-        next: end + end % 2,
+        next: ImagePlace(end + end % 2),
     }
 }
 

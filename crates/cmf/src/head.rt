@@ -10,6 +10,7 @@ use crate::image::Image;
 use crate::image::word_in;
 use crate::text::password_fits;
 use crate::text::read_texts;
+use field::kind::ImagePlace;
 use laws::byte_at;
 use laws::room;
 use laws::word_at;
@@ -25,11 +26,11 @@ pub struct Head {
     pub submenu: bool,
     pub protected: bool,
     pub back: usize,
-    pub next: usize,
-    pub table: usize,
-    pub password: usize,
+    pub next: ImagePlace,
+    pub table: ImagePlace,
+    pub password: ImagePlace,
     pub end: usize,
-    pub component: usize,
+    pub component: ImagePlace,
 }
 
 impl Head {
@@ -37,22 +38,22 @@ impl Head {
     pub(crate) const MOST: usize = 9;
 
     // Not all there, or no head: the last of its table, and it leads nowhere.
-    fn refused(p: usize, code: u8) -> Self
-        ensures { λ r. ⌜ r ≡ headRefused p code ⌝ }
+    fn refused(p: usize, refusal: u8) -> Self
+        ensures { λ r. ⌜ r ≡ headRefused p refusal ⌝ }
     {
         Head {
-            refusal: code,
+            refusal,
             typeable: true,
             first: false,
             last: true,
             submenu: false,
             protected: false,
             back: 0,
-            next: p,
-            table: p,
-            password: p,
+            next: ImagePlace(p),
+            table: ImagePlace(p),
+            password: ImagePlace(p),
             end: p,
-            component: p,
+            component: ImagePlace(p),
         }
     }
 }
@@ -109,11 +110,11 @@ fn head_read(image: &[u8], p: usize, tag: u8, end: usize) -> Head
         submenu: t / 8 % 2 == 1,
         protected,
         back: b,
-        next: p + a,
-        table: Image::PROLOG + d,
-        password,
+        next: ImagePlace(p + a),
+        table: ImagePlace(Image::PROLOG + d),
+        password: ImagePlace(password),
         end,
-        component: end + end % 2,
+        component: ImagePlace(end + end % 2),
     }
 }
 
@@ -167,11 +168,11 @@ fn short_head(image: &[u8], p: usize, tag: u8) -> Head
         submenu: t / 8 % 2 == 1,
         protected: false,
         back: word_in(image, p + back_offset(tag)),
-        next: p + word_in(image, p + 1),
-        table: Image::PROLOG + word_in(image, p + submenu_offset(tag)),
-        password: end,
+        next: ImagePlace(p + word_in(image, p + 1)),
+        table: ImagePlace(Image::PROLOG + word_in(image, p + submenu_offset(tag))),
+        password: ImagePlace(end),
         end,
-        component: end + end % 2,
+        component: ImagePlace(end + end % 2),
     }
 }
 

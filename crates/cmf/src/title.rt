@@ -2,12 +2,13 @@
 ghost use mathlib.Core.Path.{_≡_};
 ghost use Rattle.cmf.specs.Readers.{titleAt};
 use crate::text::read_texts;
+use field::kind::ImagePlace;
 
 // Where the title ends, and where the table's first line is; refusal 6: not all of it is in the image.
 pub struct Title {
     pub refusal: u8,
     pub end: usize,
-    pub line: usize,
+    pub line: ImagePlace,
 }
 
 pub fn read_title(image: &[u8], at: usize) -> Title
@@ -19,12 +20,12 @@ pub fn read_title(image: &[u8], at: usize) -> Title
         return Title {
             refusal: 0,
             end,
-            line: end + (1 - end % 2),
+            line: ImagePlace(end + (1 - end % 2)),
         };
     }
     Title {
         refusal: 6,
         end: at,
-        line: at,
+        line: ImagePlace(at),
     }
 }

@@ -48,7 +48,7 @@ minus n cs = if n .signs =? 0 then false else getD cs 0 0 =? 0
 unfoldable pub storable : Numeral → List ℕ → Bool
 storable n cs = if minus n cs then shownBy n cs ≤? n .below else shownBy n cs ≤? n .above
 
--- the number that the cells stand for; 01, Fields: minus zero is stored as 0
+-- the number that the cells stand for; 01, Fields: a minus before zero is not kept
 unfoldable pub ofDigits : Numeral → List ℕ → ℕ
 ofDigits n cs = if minus n cs then (n .limit - shownBy n cs) % n .limit else shownBy n cs
 
@@ -108,7 +108,7 @@ unfoldable pub legalTo : Kind → List ℕ → ℕ → Bool
 legalTo k cs zero = true
 legalTo k cs (suc n) = legalTo k cs n and within (cellOf k n) (getD cs n 0)
 
--- 01, A session fits: a working value in range, or legal signs and digits; a trigger's one cell holds 0
+-- 01, A session fits: a working value in range, or legal signs and digits; nobody asks it of a trigger
 unfoldable pub legal : Kind → List ℕ → Bool
 legal k cs = legalTo k cs (profileOf k .cells)
 

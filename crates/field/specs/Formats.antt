@@ -63,8 +63,8 @@ numeralOf f = record {
 abbrev pub maxBits : ℕ
 maxBits = 32
 
--- 01, Fields: a switch has a cell for each bit that it states; one that states more is refused (settings),
--- and cut here so that every switch is sound
+-- 01, Fields: a switch has a cell for each bit that it states; one that states more than 32 is refused
+-- (settings), and cut here so that every switch is sound
 unfoldable pub bitsIn : ℕ → ℕ
 bitsIn n = if n <? maxBits then n else maxBits
 

@@ -1,4 +1,5 @@
--- What a field is (01, Fields and Keys) as two tables: a row for each kind, and a row for each cell.
+-- What a field is (01, Fields and Keys, and 7.5 for its bytes) as two tables: a row for each kind, and a row
+-- for each cell.
 use Prim.Native.Nat.{ℕ, _+_, _-_}
 use mathlib.Core.Bool.{true, false}
 use Rattle.laws.specs.Choice.{if_then_else_, _=?_, _<?_}
@@ -9,7 +10,7 @@ use Rattle.field.specs.declared.kind.Kind.the-variants.{Trigger}
 use Rattle.field.specs.declared.profile.Profile.{Profile}
 use Rattle.field.specs.declared.profile.Cell.{Cell}
 
--- A cell here is what UP and DOWN change: a sign, a digit, a bit, a part of a time or date, or the whole of a
+-- A cell here is what one key changes: a sign, a digit, a bit, a part of a time or date, or the whole of a
 -- counter or option. (The cells of the display are the picture's.) A kind's row has its cells, its bytes in
 -- the sheet, and what keys do in a visit.
 

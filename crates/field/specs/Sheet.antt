@@ -1,5 +1,5 @@
--- A field's own bytes in the sheet (01, The four calls): written by Open, read where a visit begins, written
--- where it is finished.
+-- A field's own bytes in the sheet (01, The four calls): written by Open, read where a visit begins and where
+-- they are shown, written where a visit is finished.
 use Prim.Native.Nat.{ℕ}
 use mathlib.Core.List.{List}
 use Rattle.laws.specs.Parts.{partAt, putAt}

@@ -9,7 +9,7 @@ use Rattle.laws.specs.Choice.{if_then_else_}
 use Rattle.field.specs.Sheet.{defaultWritten}
 use Rattle.field.specs.declared.record.Field.{Field}
 use Rattle.cmf.specs.Readers.{titleAt, headAt, componentAt}
-use Rattle.cmf.specs.Places.{linesFrom, linesOf, componentsFrom, componentsOf, lineFromHere, heldBy, lineReach, linesReach, tableReach, fieldsAmong}
+use Rattle.cmf.specs.Places.{linesFrom, linesOf, componentsFrom, componentsOf, restOfLine, heldBy, lineReach, linesReach, tableReach, fieldsAmong}
 use Rattle.cmf.specs.declared.title.Title.{Title}
 use Rattle.cmf.specs.declared.head.Head.{Head}
 use Rattle.cmf.specs.declared.component.Component.{Component}
@@ -46,19 +46,19 @@ module _ (im : List ℕ) where
   -- ---- components
 
   module _ (left p : ℕ) (s t : List ℕ) (c : Component) (h : 0 < left) (e : c ≡ componentAt im p) (f : t ≡ defaultsWritten (heldBy c) s) where
-    components-one : writtenAt (componentsFrom im left p) s ≡ writtenAt (if c .last then [] else componentsFrom im (left - 1) (c .next)) t
+    components-one : writtenAt (componentsFrom im left p) s ≡ writtenAt (if c .last then [] else componentsFrom im (left - 1) (c .next .0)) t
     unfolding componentsFrom fieldsAmong
     components-one =
         let z : left ≡ suc (left - 1) = omega arith in
         ap (λ (n : ℕ). writtenAt (componentsFrom im n p) s) z
-        ∙ ap (λ (x : Component). defaultsWritten (heldBy x ++ fieldsAmong im (if x .last then [] else componentsFrom im (left - 1) (x .next))) s) (sym e)
-        ∙ written-join (heldBy c) _ s ∙ ap (writtenAt (if c .last then [] else componentsFrom im (left - 1) (c .next))) (sym f)
+        ∙ ap (λ (x : Component). defaultsWritten (heldBy x ++ fieldsAmong im (if x .last then [] else componentsFrom im (left - 1) (x .next .0))) s) (sym e)
+        ∙ written-join (heldBy c) _ s ∙ ap (writtenAt (if c .last then [] else componentsFrom im (left - 1) (c .next .0))) (sym f)
 
     pub components-last : c .last ≡ true → writtenAt (componentsFrom im left p) s ≡ t
     unfolding fieldsAmong defaultsWritten if_then_else_
     components-last l = components-one ∙ rw l
 
-    pub components-next : c .last ≡ false → writtenAt (componentsFrom im left p) s ≡ writtenAt (componentsFrom im (left - 1) (c .next)) t
+    pub components-next : c .last ≡ false → writtenAt (componentsFrom im left p) s ≡ writtenAt (componentsFrom im (left - 1) (c .next .0)) t
     unfolding if_then_else_
     components-next l = components-one ∙ rw l
 
@@ -73,31 +73,31 @@ module _ (im : List ℕ) where
     abbrev pub rest : ℕ → ℕ → List ℕ → List ℕ
     rest n p s = writtenAt (linesReach im (tableReach im below) (linesFrom im (100 - n) p)) s
 
-    module _ (n p : ℕ) (s u t : List ℕ) (h : Head) (few : n < 100) (e : h ≡ headAt im p) (f : u ≡ writtenAt (lineFromHere im (h .component)) s)
-        (g : t ≡ if h .submenu then writtenAt (tableReach im below (h .table)) u else u) where
+    module _ (n p : ℕ) (s u t : List ℕ) (h : Head) (few : n < 100) (e : h ≡ headAt im p) (f : u ≡ writtenAt (restOfLine im (h .component .0)) s)
+        (g : t ≡ if h .submenu then writtenAt (tableReach im below (h .table .0)) u else u) where
       line-one : writtenAt (lineReach im (tableReach im below) p) s ≡ t
       unfolding lineReach componentsOf
       line-one =
-          ap (λ (x : Head). writtenAt (lineFromHere im (x .component) ++ (if x .submenu then tableReach im below (x .table) else [])) s) (sym e)
-          ∙ at-join (lineFromHere im (h .component)) _ s ∙ at-if (h .submenu) (tableReach im below (h .table)) _
-          ∙ ap (λ (x : List ℕ). if h .submenu then writtenAt (tableReach im below (h .table)) x else x) (sym f) ∙ sym g
+          ap (λ (x : Head). writtenAt (restOfLine im (x .component .0) ++ (if x .submenu then tableReach im below (x .table .0) else [])) s) (sym e)
+          ∙ at-join (restOfLine im (h .component .0)) _ s ∙ at-if (h .submenu) (tableReach im below (h .table .0)) _
+          ∙ ap (λ (x : List ℕ). if h .submenu then writtenAt (tableReach im below (h .table .0)) x else x) (sym f) ∙ sym g
 
-      lines-one : rest n p s ≡ writtenAt (linesReach im (tableReach im below) (if h .last then [] else linesFrom im (100 - (n + 1)) (h .next))) t
+      lines-one : rest n p s ≡ writtenAt (linesReach im (tableReach im below) (if h .last then [] else linesFrom im (100 - (n + 1)) (h .next .0))) t
       unfolding linesFrom linesReach
       lines-one =
           let z : 100 - n ≡ suc (100 - (n + 1)) = omega arith in
           ap (λ (k : ℕ). writtenAt (linesReach im (tableReach im below) (linesFrom im k p)) s) z
           ∙ ap
           (λ (x : Head). writtenAt (lineReach im (tableReach im below) p
-          ++ linesReach im (tableReach im below) (if x .last then [] else linesFrom im (100 - (n + 1)) (x .next))) s) (sym e)
+          ++ linesReach im (tableReach im below) (if x .last then [] else linesFrom im (100 - (n + 1)) (x .next .0))) s) (sym e)
           ∙ at-join (lineReach im (tableReach im below) p) _ s
-          ∙ ap (writtenAt (linesReach im (tableReach im below) (if h .last then [] else linesFrom im (100 - (n + 1)) (h .next)))) line-one
+          ∙ ap (writtenAt (linesReach im (tableReach im below) (if h .last then [] else linesFrom im (100 - (n + 1)) (h .next .0)))) line-one
 
       pub lines-last : h .last ≡ true → rest n p s ≡ t
       unfolding linesReach fieldsAmong defaultsWritten if_then_else_
       lines-last l = lines-one ∙ rw l
 
-      pub lines-next : h .last ≡ false → rest n p s ≡ rest (n + 1) (h .next) t
+      pub lines-next : h .last ≡ false → rest n p s ≡ rest (n + 1) (h .next .0) t
       unfolding if_then_else_
       lines-next l = lines-one ∙ rw l
 
@@ -110,7 +110,7 @@ module _ (im : List ℕ) where
   unfolding tableReach fieldsAmong defaultsWritten
   table-none left t s e = rw e
 
-  pub table-lines : (left at : ℕ) (t : Title) (s : List ℕ) → (left ≡ 0 → ⊥) → t ≡ titleAt im at → writtenAt (tableReach im left at) s ≡ rest (left - 1) 0 (t .line) s
+  pub table-lines : (left at : ℕ) (t : Title) (s : List ℕ) → (left ≡ 0 → ⊥) → t ≡ titleAt im at → writtenAt (tableReach im left at) s ≡ rest (left - 1) 0 (t .line .0) s
   unfolding tableReach linesOf
   table-lines left at t s z e =
       let k : left ≡ suc (left - 1) = omega arith in

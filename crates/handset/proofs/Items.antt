@@ -15,11 +15,12 @@ use Rattle.field.specs.declared.record.Field.{Field}
 use Rattle.cmf.specs.Layouts.{Texts, Component}
 use Rattle.cmf.specs.Grammar.{Every, WellFormed}
 use Rattle.cmf.specs.Readers.{itemFrom, itemPlace, componentAt}
+use Rattle.cmf.specs.Places.{fieldPlaces, isIn}
 use Rattle.cmf.proofs.Agreeing.{agree}
-use Rattle.acceptance.specs.Check.{entryOf, checked, refusalOf}
-use Rattle.acceptance.proofs.Acceptance.{accepted-exactly-when-well-formed, counted}
+use Rattle.acceptance.specs.Check.{refusalOf}
+use Rattle.acceptance.proofs.Acceptance.{accepted-exactly-when-well-formed, fields-are}
 use Rattle.acceptance.proofs.Fields.{held-is, every-table}
-use Rattle.handset.specs.OptionText.{reached, itemsIn, textRefusal, textAt, textPlace, optionText, ItemIs}
+use Rattle.handset.specs.OptionText.{itemsIn, textRefusal, textSpan, textPlace, optionText, ItemIs}
 use Rattle.handset.specs.declared.option.TextPlace.{TextPlace}
 use Rattle.handset.proofs.Ordering.{none-before, none-unless}
 use Rattle.handset.proofs.Finding.{place-none, place-some, place-refusal}
@@ -33,14 +34,14 @@ module _ (im : List ℕ) where
   step k at h = if-lt at (length im) _ _ h
 
   -- of texts of the grammar each is in the image
-  texts-stand :
+  items-inside :
       {n at end longest : ℕ} → Texts im n at end longest → (k : ℕ) → k < n →
       itemFrom im k at + 1 + byteAt im (itemFrom im k at) ≤ length im
   unfolding itemFrom
-  texts-stand Texts.none k h = absurd (omega arith)
-  texts-stand (Texts.more mid t ts) zero h = omega (arith, t .ends, t .inside)
-  texts-stand {at = at} (Texts.more mid t ts) (suc k) h =
-      rw (step k at (omega (arith, t .ends, t .inside)), ← t .ends) (texts-stand ts k (omega arith))
+  items-inside Texts.none k h = absurd (omega arith)
+  items-inside (Texts.more mid t ts) zero h = omega (arith, t .ends, t .inside)
+  items-inside {at = at} (Texts.more mid t ts) (suc k) h =
+      rw (step k at (omega (arith, t .ends, t .inside)), ← t .ends) (items-inside ts k (omega arith))
 
   -- after a text that is all in the image comes the next
   texts-turn :
@@ -58,52 +59,52 @@ module _ (im : List ℕ) where
 -- ---- the items of a field
 
 -- all items of the component at a place are in the image
-record Stands (im : List ℕ) (place : ℕ) : Type 0 where
-  stands :
+record ItemsInside (im : List ℕ) (place : ℕ) : Type 0 where
+  inside :
       (item : ℕ) → item < itemsIn (componentAt im place .field .kind) →
       itemPlace im place item + 1 + byteAt im (itemPlace im place item) ≤ length im
 
 -- and so at the place of each of some fields
-abbrev AllStand : List ℕ → List Field → Type 0
-AllStand im fs = Every (λ (f : Field). Stands im (f .image .0)) fs
+abbrev AllInside : List ℕ → List Field → Type 0
+AllInside im fs = Every (λ (f : Field). ItemsInside im (f .image .0)) fs
 
 -- a field that is no option has no items
-none-stand : (im : List ℕ) (end : ℕ) (f : Field) → itemsIn (f .kind) ≡ 0 → Component im (f .image .0) end (f ∷ []) → AllStand im (f ∷ [])
-none-stand im end f z c =
+none-inside : (im : List ℕ) (end : ℕ) (f : Field) → itemsIn (f .kind) ≡ 0 → Component im (f .image .0) end (f ∷ []) → AllInside im (f ∷ [])
+none-inside im end f z c =
     let k = held-is (componentAt im (f .image .0)) f (agree im .component-is c .fields) in
-    Every.add {f = f} (record { stands = λ item h. absurd (omega (arith, rw (k, z) at h)) }) Every.none
+    Every.add {f = f} (record { inside = λ item h. absurd (omega (arith, rw (k, z) at h)) }) Every.none
 
 -- an option's items are texts of the grammar, and no other component has items
-component-stands : (im : List ℕ) (at end : ℕ) (fs : List Field) → Component im at end fs → AllStand im fs
+component-inside : (im : List ℕ) (at end : ℕ) (fs : List Field) → Component im at end fs → AllInside im fs
 unfolding itemsIn
-component-stands im at end fs (Component.integer c l g) = none-stand im end _ refl (Component.integer c l g)
-component-stands im at end fs (Component.counter c l g) = none-stand im end _ refl (Component.counter c l g)
-component-stands im at end fs (Component.time-long c l g) = none-stand im end _ refl (Component.time-long c l g)
-component-stands im at end fs (Component.time-short c l g) = none-stand im end _ refl (Component.time-short c l g)
-component-stands im at end fs (Component.date-long c l g) = none-stand im end _ refl (Component.date-long c l g)
-component-stands im at end fs (Component.date-short c l g) = none-stand im end _ refl (Component.date-short c l g)
-component-stands im at end fs (Component.switch c l g) = none-stand im end _ refl (Component.switch c l g)
-component-stands im at end fs (Component.option c l g) =
+component-inside im at end fs (Component.integer c l g) = none-inside im end _ refl (Component.integer c l g)
+component-inside im at end fs (Component.counter c l g) = none-inside im end _ refl (Component.counter c l g)
+component-inside im at end fs (Component.time-long c l g) = none-inside im end _ refl (Component.time-long c l g)
+component-inside im at end fs (Component.time-short c l g) = none-inside im end _ refl (Component.time-short c l g)
+component-inside im at end fs (Component.date-long c l g) = none-inside im end _ refl (Component.date-long c l g)
+component-inside im at end fs (Component.date-short c l g) = none-inside im end _ refl (Component.date-short c l g)
+component-inside im at end fs (Component.switch c l g) = none-inside im end _ refl (Component.switch c l g)
+component-inside im at end fs (Component.option c l g) =
     let k = held-is (componentAt im at) _ (agree im .component-is (Component.option c l g) .fields) in
-    Every.add (record { stands = λ item h. texts-stand im (l .items) item (rw k at h) }) Every.none
-component-stands im at end fs (Component.constant c b x) = Every.none
-component-stands im at end fs (Component.trigger c l) = none-stand im end _ refl (Component.trigger c l)
+    Every.add (record { inside = λ item h. items-inside im (l .items) item (rw k at h) }) Every.none
+component-inside im at end fs (Component.constant c b x) = Every.none
+component-inside im at end fs (Component.trigger c l) = none-inside im end _ refl (Component.trigger c l)
 
 -- a place that was reached is that of a field, so its items are in the image
-reached-stands :
-    (im : List ℕ) (place : ℕ) {fs : List Field} → AllStand im fs → reached place (map entryOf fs) ≡ true → Stands im place
-unfolding reached
-reached-stands im place Every.none h = absurd (false≢true h)
-reached-stands im place (Every.add {f = f} p ps) h =
-    if-ind (λ (b : Bool). b ≡ true → Stands im place) (f .image .0 =? place)
-    (λ e _. rw (eqb-true (f .image .0) place e) at p) (λ _ g. reached-stands im place ps g) h
+reached-inside :
+    (im : List ℕ) (place : ℕ) {fs : List Field} → AllInside im fs → isIn place (map (λ (f : Field). f .image .0) fs) ≡ true → ItemsInside im place
+unfolding isIn
+reached-inside im place Every.none h = absurd (false≢true h)
+reached-inside im place (Every.add {f = f} p ps) h =
+    if-ind (λ (b : Bool). b ≡ true → ItemsInside im place) (f .image .0 =? place)
+    (λ e _. rw (eqb-true (f .image .0) place e) at p) (λ _ g. reached-inside im place ps g) h
 
 -- ---- the call
 
 -- what is known of a call that is not refused
 record Granted (im : List ℕ) (extent place item : ℕ) : Type 0 where
   accepted : refusalOf im extent ≡ 0
-  found : reached place (checked im extent .fields) ≡ true
+  found : isIn place (fieldPlaces im) ≡ true
   one : item < itemsIn (componentAt im place .field .kind)
 
 -- a refusal of 0 has passed every test
@@ -123,7 +124,7 @@ pub item-inside :
     (im : List ℕ) (extent place item : ℕ) → textRefusal im extent place item ≡ 0 →
     itemPlace im place item + 1 + byteAt im (itemPlace im place item) ≤ length im
 item-inside im extent place item z =
-    reached-stands im place all (rw (counted im extent w .index) at (g .found)) .stands item (g .one)
+    reached-inside im place all (rw (← fields-are im extent w) at (g .found)) .inside item (g .one)
   where
     g : Granted im extent place item
     g = granted im extent place item z
@@ -131,8 +132,8 @@ item-inside im extent place item z =
     w : WellFormed im extent
     w = accepted-exactly-when-well-formed im extent .0 (g .accepted)
 
-    all : AllStand im (w .fields)
-    all = every-table im _ (component-stands im) _ _ _ _ (w .table)
+    all : AllInside im (w .fields)
+    all = every-table im _ (component-inside im) _ _ _ _ (w .table)
 
 -- and the answer is the item's own bytes
 pub item-is : (im : List ℕ) (extent place item : ℕ) → textRefusal im extent place item ≡ 0 → ItemIs im place item (optionText im extent place item)
@@ -173,7 +174,7 @@ from-on im (suc k) at =
 
 -- the call by what the code finds: the refusal, and for a text that is given the item's place
 module _ (im : List ℕ) (extent place item k : ℕ) (q : k ≡ textRefusal im extent place item) where
-  pub not-placed : (k ≡ 0 → ⊥) → textAt k 0 0 ≡ textPlace im extent place item
+  pub not-placed : (k ≡ 0 → ⊥) → textSpan k 0 0 ≡ textPlace im extent place item
   not-placed h = rw q (sym (place-none im extent place item (rw q at h)))
 
   module _ (z : k ≡ 0) (p : ℕ) (e : p ≡ (if place <? length im then itemPlace im place item else 0)) where
@@ -184,7 +185,7 @@ module _ (im : List ℕ) (extent place item k : ℕ) (q : k ≡ textRefusal im e
     pub placed-inside : p + 1 ≤ length im
     placed-inside = rw found (omega (arith, item-inside im extent place item (sym q ∙ z)))
 
-    pub placed : (n : ℕ) → n ≡ byteAt im p → textAt 0 (p + 1) n ≡ textPlace im extent place item
+    pub placed : (n : ℕ) → n ≡ byteAt im p → textSpan 0 (p + 1) n ≡ textPlace im extent place item
     placed n f = rw (f, found) (sym (place-some im extent place item (sym q ∙ z)))
 
 -- the first item is after the ten bytes of 7.5.21

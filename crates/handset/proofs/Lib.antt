@@ -3,7 +3,7 @@ pub mod Finding
 pub mod Items
 pub mod Filling
 pub mod Opening
-pub mod Defaults
+pub mod AfterOpen
 pub mod Stepping
 pub mod Drawing
 pub mod Printed

@@ -1,4 +1,4 @@
--- 01, The four calls: Draw. The sheet is only read.
+-- 01, The four calls: Draw. It does not write the sheet.
 use Prim.Native.Nat.{ℕ, _*_}
 use mathlib.Core.List.{List, []}
 use lib.ListN.{length}

@@ -1,4 +1,4 @@
--- 01, The four calls: Event. It takes the session in and hands the next one back, with an answer.
+-- 01, The four calls: Event. A session comes in, and the next one goes out with an answer.
 use Prim.Native.Nat.{ℕ}
 use mathlib.Core.List.{List}
 use lib.ListN.{length}
@@ -15,7 +15,7 @@ use Rattle.handset.specs.Refusals.{_before_, _unless_, sessionRefusal}
 unfoldable pub eventRefusal : List ℕ → ℕ → Session → ℕ → ℕ
 eventRefusal im extent s e = sessionRefusal im extent s before (13 unless (e ≤? second))
 
--- a refused Event returns the session it got, with the refusal number
+-- what a refusal gives: the session as it came, and the number
 abbrev pub refusedWith : Session → ℕ → Stepped
 refusedWith s k = record { session = s; answer = answer.Refused k }
 

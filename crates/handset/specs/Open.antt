@@ -12,18 +12,18 @@ use Rattle.session.specs.Fits.{shapeFits}
 use Rattle.handset.specs.Refusals.{_before_, _unless_}
 use Rattle.handset.specs.declared.open.Opened.{Opened}
 
--- 01, Refusal numbers: Open checks 1 first, then 2 to 11
+-- 01, Refusal numbers: the display's shape comes before image and sheet
 unfoldable pub openRefusal : List ℕ → ℕ → ℕ → ℕ → ℕ
 openRefusal im extent columns lines = (1 unless shapeFits columns lines) before refusalOf im extent
 
--- the session with the refusal number, 0 for none: a refused Open returns a closed session
+-- the refusal number, 0 for none, and the session: a closed one where it is refused
 unfoldable pub openAnswer : List ℕ → ℕ → ℕ → ℕ → Opened
 openAnswer im extent columns lines = record {
   refusal = openRefusal im extent columns lines;
   session = if openRefusal im extent columns lines =? 0 then opened columns lines else closed;
 }
 
--- the defaults of fields written, one after another; sheet bytes of no field stay
+-- the defaults of fields written, one after another, and no other byte
 unfoldable pub defaultsWritten : List Field → List ℕ → List ℕ
 defaultsWritten [] s = s
 defaultsWritten (f ∷ fs) s = defaultsWritten fs (defaultWritten f s)

@@ -1,8 +1,7 @@
 -- 01, The four calls: the option text. It takes image and sheet and no session.
 use Prim.Native.Nat.{ℕ, _+_, _≤_}
 use mathlib.Core.Path.{_≡_}
-use mathlib.Core.Bool.{Bool, true, false}
-use mathlib.Core.List.{List, [], _∷_}
+use mathlib.Core.List.{List}
 use lib.ListN.{length}
 use Rattle.laws.specs.Choice.{if_then_else_, _and_, _=?_, _<?_}
 use Rattle.laws.specs.Bytes.{byteAt}
@@ -10,15 +9,10 @@ use Rattle.laws.specs.Parts.{partAt}
 use Rattle.field.specs.declared.kind.Kind.{Kind}
 use Rattle.field.specs.declared.kind.Kind.the-variants.{Integer, Counter, Time, Date, Switch, Option, Trigger}
 use Rattle.cmf.specs.Readers.{itemPlace, componentAt}
-use Rattle.acceptance.specs.Check.{checked, refusalOf}
-use Rattle.acceptance.specs.declared.index.Entry.{Entry}
+use Rattle.cmf.specs.Places.{fieldPlaces, isIn}
+use Rattle.acceptance.specs.Check.{refusalOf}
 use Rattle.handset.specs.Refusals.{_before_, _unless_}
 use Rattle.handset.specs.declared.option.TextPlace.{TextPlace}
-
--- a field was reached at a place
-unfoldable pub reached : ℕ → List Entry → Bool
-reached place [] = false
-reached place (e ∷ es) = if e .place .0 =? place then true else reached place es
 
 -- how many items a field has: only an option has any
 unfoldable pub itemsIn : Kind → ℕ
@@ -34,20 +28,19 @@ itemsIn Trigger = 0
 unfoldable pub textRefusal : List ℕ → ℕ → ℕ → ℕ → ℕ
 textRefusal im extent place item =
     refusalOf im extent
-    before (14 unless (reached place (checked im extent .fields)
-    and (item <? itemsIn (componentAt im place .field .kind))))
+    before (14 unless (isIn place (fieldPlaces im) and (item <? itemsIn (componentAt im place .field .kind))))
 
 -- a refusal, or the place of a text's first byte and how many there are
-abbrev pub textAt : ℕ → ℕ → ℕ → TextPlace
-textAt k start n = record { refusal = k; start = record { 0 = start }; length = n }
+abbrev pub textSpan : ℕ → ℕ → ℕ → TextPlace
+textSpan k start n = record { refusal = k; start = record { 0 = start }; length = n }
 
 -- where the item's own bytes are: after its length byte, as many as that says; a refusal has neither place
 -- nor length
 unfoldable pub textPlace : List ℕ → ℕ → ℕ → ℕ → TextPlace
 textPlace im extent place item =
     if textRefusal im extent place item =? 0
-    then textAt 0 (itemPlace im place item + 1) (byteAt im (itemPlace im place item))
-    else textAt (textRefusal im extent place item) 0 0
+    then textSpan 0 (itemPlace im place item + 1) (byteAt im (itemPlace im place item))
+    else textSpan (textRefusal im extent place item) 0 0
 
 -- the item's own bytes are that part of the image; a refusal gives an empty part
 unfoldable pub optionText : List ℕ → ℕ → ℕ → ℕ → List ℕ

@@ -1,4 +1,4 @@
-// The call Event: takes the session in and hands the next one back, with an answer.
+// The call Event: a session comes in, and the next one goes out with an answer.
 ghost use mathlib.Core.Path.{_≡_};
 ghost use Rattle.laws.specs.Choice.{_≤?_};
 ghost use Rattle.session.specs.Events.{second};

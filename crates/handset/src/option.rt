@@ -1,8 +1,9 @@
 // The call Option text: an item's own bytes, shown as that part of the lent image, and where that part is.
 ghost use mathlib.Core.Path.{_≡_};
 ghost use lib.ListN.{length};
-ghost use Rattle.acceptance.specs.Index.{listed};
-ghost use Rattle.handset.specs.OptionText.{reached, itemsIn, textRefusal, textPlace, optionText};
+ghost use Rattle.cmf.specs.Places.{isIn};
+ghost use Rattle.acceptance.specs.Index.{placesIn};
+ghost use Rattle.handset.specs.OptionText.{itemsIn, textRefusal, textPlace, optionText};
 use crate::refusal::NO_ITEM;
 use acceptance::index::entry_at;
 use cmf::component::read_component;
@@ -22,7 +23,7 @@ pub struct TextPlace {
 
 // Whether one of the first k entries of an index is at a place.
 fn is_reached(index: &[usize], k: usize, place: usize) -> bool
-    ensures { λ r. ⌜ r ≡ reached place (listed (now (index .entry)) k) ⌝ }
+    ensures { λ r. ⌜ r ≡ isIn place (placesIn (now (index .entry)) k) ⌝ }
 {
     let mut i = 0;
     while i < k {

@@ -13,7 +13,7 @@ use Rattle.laws.specs.Bytes.{byteAt, room}
 use Rattle.laws.proofs.Cases.{if-ind, if-false, by-test}
 use Rattle.field.specs.declared.kind.ImagePlace.{ImagePlace}
 use Rattle.cmf.specs.Readers.{tagBit, textsFrom, fixedBytes, textCount, given, componentRefused, componentRead, laidOut, componentBy, componentAt}
-use Rattle.cmf.specs.Places.{componentsFrom, lineFromHere, firstEditable, nextEditable}
+use Rattle.cmf.specs.Places.{componentsFrom, restOfLine, firstEditable, nextEditable, isIn}
 use Rattle.cmf.specs.declared.component.Component.{Component}
 use Rattle.cmf.specs.declared.text.Run.{Run}
 use Rattle.cmf.specs.declared.place.Found.{Found}
@@ -21,7 +21,6 @@ use Rattle.cmf.specs.declared.place.Found.the-variants.{At, Nothing}
 use Rattle.cmf.proofs.Onward.{component-onward}
 use Rattle.acceptance.proofs.Parts.{places-last, places-more}
 use Rattle.acceptance.proofs.Turns.{turns-more}
-use Rattle.session.specs.Fits.{isIn}
 
 -- ---- one component
 
@@ -64,18 +63,18 @@ module _ (im : List ℕ) (c : ℕ) where
 -- ---- lists of components
 
 -- a place that is among others is one of them
-pub among-in : (p : ℕ) (cs : List ℕ) → isIn p cs ≡ true → List·Memᴰ p cs
+pub in-member : (p : ℕ) (cs : List ℕ) → isIn p cs ≡ true → List·Memᴰ p cs
 unfolding isIn
-among-in p [] h = absurd (false≢true h)
-among-in p (q ∷ qs) h =
-    by-test (q =? p) (λ e. List·Memᴰ·head (sym (eqb-true q p e))) (λ e. List·Memᴰ·tail (among-in p qs (sym (if-false _ _ e) ∙ h)))
+in-member p [] h = absurd (false≢true h)
+in-member p (q ∷ qs) h =
+    by-test (q =? p) (λ e. List·Memᴰ·head (sym (eqb-true q p e))) (λ e. List·Memᴰ·tail (in-member p qs (sym (if-false _ _ e) ∙ h)))
 
 -- and the other way
-pub in-among : (p : ℕ) (cs : List ℕ) → List·Memᴰ p cs → isIn p cs ≡ true
+pub member-in : (p : ℕ) (cs : List ℕ) → List·Memᴰ p cs → isIn p cs ≡ true
 unfolding isIn
-in-among p [] m = absurd (List·Memᴰ·not-nil m)
-in-among p (q ∷ qs) m =
-    if-ind (λ (t : Bool). t ≡ true) (q =? p) (λ _. refl) (λ e. go (eqb-false q p e) (List·Memᴰ·cases-cons m) (λ k. in-among p qs k))
+member-in p [] m = absurd (List·Memᴰ·not-nil m)
+member-in p (q ∷ qs) m =
+    if-ind (λ (t : Bool). t ≡ true) (q =? p) (λ _. refl) (λ e. go (eqb-false q p e) (List·Memᴰ·cases-cons m) (λ k. member-in p qs k))
   where
     go : (q ≡ p → ⊥) → (p ≡ q) ⊎ List·Memᴰ p qs → (List·Memᴰ p qs → isIn p qs ≡ true) → isIn p qs ≡ true
     go d (inl i) later = absurd (d (sym i))
@@ -106,11 +105,11 @@ module _ (im : List ℕ) where
       (λ _. editable-within ps (p ∷ ps) _ (λ q m. List·Memᴰ·tail m) (first-editable-in ps))
 
   -- what comes after a component that is not the last of its line is on the line; k bounds the turns, and is enough
-  pub behind-in : (k c p q : ℕ) → length im < k + c → k ≤ length im + 1 → List·Memᴰ p (componentsFrom im k c) → componentAt im p .last ≡ false
-      → List·Memᴰ q (componentsFrom im (length im + 1) (componentAt im p .next)) → List·Memᴰ q (componentsFrom im k c)
+  pub after-in : (k c p q : ℕ) → length im < k + c → k ≤ length im + 1 → List·Memᴰ p (componentsFrom im k c) → componentAt im p .last ≡ false
+      → List·Memᴰ q (componentsFrom im (length im + 1) (componentAt im p .next .0)) → List·Memᴰ q (componentsFrom im k c)
   unfolding componentsFrom
-  behind-in zero c p q h b m l n = absurd (List·Memᴰ·not-nil m)
-  behind-in (suc k) c p q h b m l n =
+  after-in zero c p q h b m l n = absurd (List·Memᴰ·not-nil m)
+  after-in (suc k) c p q h b m l n =
       by-test (componentAt im c .last)
       (λ e. absurd (true≢false (sym (subst (λ (x : ℕ). componentAt im x .last ≡ true) (sym (List·Memᴰ·eq-of-singleton (rw (places-last im k c e) at m))) e) ∙ l)))
       (λ e.
@@ -118,22 +117,22 @@ module _ (im : List ℕ) where
       rw (places-more im k c e)
       (List·Memᴰ·tail
       (step e o (List·Memᴰ·cases-cons (rw (places-more im k c e) at m))
-      (λ r. behind-in k (componentAt im c .next) p q (omega (arith, o .1)) (omega arith) r l n))))
+      (λ r. after-in k (componentAt im c .next .0) p q (omega (arith, o .1)) (omega arith) r l n))))
     where
-      step : componentAt im c .last ≡ false → (c < length im) × (c < componentAt im c .next)
-          → (p ≡ c) ⊎ List·Memᴰ p (componentsFrom im k (componentAt im c .next))
-          → (List·Memᴰ p (componentsFrom im k (componentAt im c .next)) → List·Memᴰ q (componentsFrom im k (componentAt im c .next)))
-          → List·Memᴰ q (componentsFrom im k (componentAt im c .next))
+      step : componentAt im c .last ≡ false → (c < length im) × (c < componentAt im c .next .0)
+          → (p ≡ c) ⊎ List·Memᴰ p (componentsFrom im k (componentAt im c .next .0))
+          → (List·Memᴰ p (componentsFrom im k (componentAt im c .next .0)) → List·Memᴰ q (componentsFrom im k (componentAt im c .next .0)))
+          → List·Memᴰ q (componentsFrom im k (componentAt im c .next .0))
       step e o (inl i) rest =
-          rw (← turns-more im (component-onward im) k (length im + 1) (componentAt im c .next) (omega arith) (omega (arith, o .0)) (omega (arith, o .1)))
+          rw (← turns-more im (component-onward im) k (length im + 1) (componentAt im c .next .0) (omega arith) (omega (arith, o .0)) (omega (arith, o .1)))
           (rw i at n)
       step e o (inr r) rest = rest r
 
   -- so the editable component after one of a line is on the line too
-  pub next-editable-in : (c p : ℕ) → List·Memᴰ p (lineFromHere im c) → EditableIn im (lineFromHere im c) (nextEditable im p)
+  pub next-editable-in : (c p : ℕ) → List·Memᴰ p (restOfLine im c) → EditableIn im (restOfLine im c) (nextEditable im p)
   unfolding nextEditable
   next-editable-in c p m =
-      if-ind (EditableIn im (lineFromHere im c)) (componentAt im p .last)
+      if-ind (EditableIn im (restOfLine im c)) (componentAt im p .last)
       (λ _. EditableIn.none)
-      (λ l. editable-within (lineFromHere im (componentAt im p .next)) (lineFromHere im c) _
-      (λ q n. behind-in (length im + 1) c p q (omega arith) (omega arith) m l n) (first-editable-in (lineFromHere im (componentAt im p .next))))
+      (λ l. editable-within (restOfLine im (componentAt im p .next .0)) (restOfLine im c) _
+      (λ q n. after-in (length im + 1) c p q (omega arith) (omega arith) m l n) (first-editable-in (restOfLine im (componentAt im p .next .0))))

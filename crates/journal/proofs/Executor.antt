@@ -52,7 +52,7 @@ use Rattle.handset.proofs.Stepping.{refused-step, refused-sheet, stepped, stepp
 use Rattle.journal.specs.Journal.{answered, on, ignored, counts}
 use Rattle.journal.specs.Rules.{fieldAt, openerOf, outOf, pressedOut, rulesOf, IsField}
 use Rattle.journal.specs.Sitting.{Sitting, sitting, next, answerTo}
-use Rattle.journal.proofs.Components.{own-place, editable-holds, among-in, EditableIn, by-found, first-editable-in, next-editable-in}
+use Rattle.journal.proofs.Components.{own-place, editable-holds, in-member, EditableIn, by-found, first-editable-in, next-editable-in}
 use Rattle.journal.proofs.Reached.{cursor-line-in}
 use Rattle.journal.proofs.Steps.{View, away, at, System, Fresh, none, Step, skips, quiet, opens, goes, passes, ends, Lawful}
 use Rattle.journal.proofs.Steps as steps
@@ -291,7 +291,7 @@ module _ (im : List ℕ) where
 
       on-this-line : List·Memᴰ (p .0) (componentsOf im (cursorLine im (s .here)))
       unfolding visitFits
-      on-this-line = among-in (p .0) _ (and-l _ _ here)
+      on-this-line = in-member (p .0) _ (and-l _ _ here)
 
       editable : componentAt im (p .0) .editable ≡ true
       unfolding visitFits

@@ -14,7 +14,7 @@ use Rattle.session.specs.Session.{opened, closed}
 use Rattle.session.specs.declared.session.Session.{Session}
 use Rattle.handset.specs.Open.{openRefusal, openAnswer, openSheet}
 use Rattle.handset.proofs.Ordering.{none-before}
-use Rattle.handset.proofs.Defaults.{defaults-there}
+use Rattle.handset.proofs.AfterOpen.{defaults-there}
 use Rattle.journal.specs.Journal.{Answered, answered, allVisited, AllFinish, journalOf}
 use Rattle.journal.specs.Rules.{fieldAt, rulesOf, IsField, HoldsJournal}
 use Rattle.journal.specs.Sitting.{Sitting, begunWith, next, answerTo, played, answeredIn, visitsIn}

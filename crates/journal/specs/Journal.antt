@@ -40,7 +40,7 @@ pub record Rules (W : Type 0) : Type 0 where
 abbrev pub counts : Answered → Bool
 counts x = if x .event =? enter then (if isFlash (x .answer) then false else true) else false
 
--- 01: a refused event or a second changes nothing
+-- 01: what is left out: seconds, and events that were refused
 abbrev pub ignored : Answered → Bool
 ignored x = if x .event =? second then true else isRefused (x .answer)
 
@@ -62,7 +62,7 @@ abbrev pub keysOf : List Answered → List ℕ
 keysOf [] = []
 keysOf (x ∷ t) = x .event ∷ keysOf t
 
--- ---- a finished visit: its keys, oldest first. 01: visits are the same if their keys are
+-- ---- a finished visit: its keys, oldest first, and nothing more; 01 tells visits apart by them alone
 
 module _ {W : Type 0} (R : Rules W) (p : ℕ) where
   -- a key more; what is stored stays
@@ -153,7 +153,7 @@ module _ {W : Type 0} (R : Rules W) where
   allFed j [] = j
   allFed j (x ∷ xs) = allFed (fed j x) xs
 
-  -- 01: it starts with an empty trace and each field's default bytes
+  -- 01: at first nothing is on the trace, and each field has its default
   abbrev pub empty : Journal
   empty = record { trace = []; visits = λ p. []; bytes = R .default }
 

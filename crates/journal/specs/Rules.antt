@@ -23,7 +23,7 @@ use Rattle.journal.specs.Journal.{Out, on, stored, Rules, Journal}
 abbrev pub fieldAt : List ℕ → ℕ → Field
 fieldAt im p = componentAt im p .field
 
--- 01: the opening ENTER is the fourth for HH:MM:SS and dates, the third for HH:MM, else the second
+-- 01: how many ENTERs a visit took, the one that opened it among them: one for each part, and one more
 unfoldable pub openerOf : Kind → ℕ
 openerOf (Integer f) = 2
 openerOf (Counter s) = 2

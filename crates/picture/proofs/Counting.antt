@@ -18,11 +18,11 @@ module _ (im : List ℕ) (place : ℕ) where
   pub before-here : (left p sum : ℕ) → 0 < left → p ≡ place → sum ≤ 255 → sum ≡ min 255 (sum + cellsBefore im place (componentsFrom im left p))
   unfolding cellsBefore componentsFrom
   before-here zero p sum h e l = absurd (omega arith)
-  before-here (suc n) p sum h e l = rw (if-eq p place 0 (widthAt im p (componentAt im p) + cellsBefore im place (if componentAt im p .last then [] else componentsFrom im n (componentAt im p .next))) e) (omega arith)
+  before-here (suc n) p sum h e l = rw (if-eq p place 0 (widthAt im p (componentAt im p) + cellsBefore im place (if componentAt im p .last then [] else componentsFrom im n (componentAt im p .next .0))) e) (omega arith)
 
   before-one : (left p : ℕ) (c : Component) → 0 < left → (p ≡ place → ⊥) → c ≡ componentAt im p
       → cellsBefore im place (componentsFrom im left p)
-      ≡ widthAt im p c + cellsBefore im place (if c .last then [] else componentsFrom im (left - 1) (c .next))
+      ≡ widthAt im p c + cellsBefore im place (if c .last then [] else componentsFrom im (left - 1) (c .next .0))
   unfolding cellsBefore componentsFrom
   before-one zero p c h n e = absurd (omega arith)
   before-one (suc k) p c h n e = let z : suc k - 1 ≡ k = omega arith in if-ne p place _ _ n ∙ rw (z, e)
@@ -35,7 +35,7 @@ module _ (im : List ℕ) (place : ℕ) where
       omega arith
 
   pub before-next : (left p sum w r : ℕ) (c : Component) → 0 < left → (p ≡ place → ⊥) → c ≡ componentAt im p → w ≡ widthAt im p c → r ≡ min 255 (sum + w)
-      → c .last ≡ false → min 255 (r + cellsBefore im place (componentsFrom im (left - 1) (c .next))) ≡ min 255 (sum + cellsBefore im place (componentsFrom im left p))
+      → c .last ≡ false → min 255 (r + cellsBefore im place (componentsFrom im (left - 1) (c .next .0))) ≡ min 255 (sum + cellsBefore im place (componentsFrom im left p))
   before-next left p sum w r c h n e f g l =
       let o = before-one left p c h n e ∙ ap (λ (ps : List ℕ). widthAt im p c + cellsBefore im place ps) (if-false _ _ l) in
       omega arith

@@ -51,20 +51,20 @@ module _ (im sheet : List ℕ) (s : Session) where
   unfolding rowsFrom
   length-rows count zero k p h = omega arith
   length-rows count (suc n) k p h =
-      length-append (rowAt im sheet s count k p) (rowsFrom im sheet s count n (k + 1) (headAt im p .next))
-      ∙ rw (length-row-at count k p h, length-rows count n (k + 1) (headAt im p .next) h) (omega arith)
+      length-append (rowAt im sheet s count k p) (rowsFrom im sheet s count n (k + 1) (headAt im p .next .0))
+      ∙ rw (length-row-at count k p h, length-rows count n (k + 1) (headAt im p .next .0) h) (omega arith)
 
   -- one row of those that are left
   rows-one : (count n k p at : ℕ) (row d e : List ℕ) (h : Head) → 2 ≤ s .columns → h ≡ headAt im p → row ≡ rowAt im sheet s count k p → e ≡ over d at row
-      → over e (at + s .columns) (rowsFrom im sheet s count n (k + 1) (h .next)) ≡ over d at (rowsFrom im sheet s count (suc n) k p)
+      → over e (at + s .columns) (rowsFrom im sheet s count n (k + 1) (h .next .0)) ≡ over d at (rowsFrom im sheet s count (suc n) k p)
   unfolding rowsFrom
   rows-one count n k p at row d e h w q r f =
       let l : at + length row ≡ at + s .columns = ap (λ (i : ℕ). at + i) (rw r (length-row-at count k p w)) in
-      let rest = rowsFrom im sheet s count n (k + 1) (headAt im p .next) in
+      let rest = rowsFrom im sheet s count n (k + 1) (headAt im p .next .0) in
       rw (f, q) (ap (λ (i : ℕ). over (over d at row) i rest) (sym l) ∙ over-next d at row rest ∙ rw r)
 
   pub rows-turn : (count left k p at : ℕ) (row d e : List ℕ) (h : Head) → 2 ≤ s .columns → 1 < left → h ≡ headAt im p → row ≡ rowAt im sheet s count k p → e ≡ over d at row
-      → over e (at + s .columns) (rowsFrom im sheet s count (left - 1 - 1) (k + 1) (h .next)) ≡ over d at (rowsFrom im sheet s count (left - 1) k p)
+      → over e (at + s .columns) (rowsFrom im sheet s count (left - 1 - 1) (k + 1) (h .next .0)) ≡ over d at (rowsFrom im sheet s count (left - 1) k p)
   rows-turn count left k p at row d e h w l q r f =
       let z : suc (left - 1 - 1) ≡ left - 1 = omega arith in
       rows-one count (left - 1 - 1) k p at row d e h w q r f ∙ ap (λ (n : ℕ). over d at (rowsFrom im sheet s count n k p)) z

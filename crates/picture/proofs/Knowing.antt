@@ -52,11 +52,11 @@ module _ (im : List ℕ) where
 
   lines-end : (n p : ℕ) → headAt im p .last ≡ true → length (linesFrom im (suc n) p) ≡ 1
   unfolding linesFrom
-  lines-end n p t = ap (λ (ps : List ℕ). suc (length ps)) (if-true [] (linesFrom im n (headAt im p .next)) t)
+  lines-end n p t = ap (λ (ps : List ℕ). suc (length ps)) (if-true [] (linesFrom im n (headAt im p .next .0)) t)
 
-  lines-more : (n p : ℕ) → headAt im p .last ≡ false → length (linesFrom im (suc n) p) ≡ suc (length (linesFrom im n (headAt im p .next)))
+  lines-more : (n p : ℕ) → headAt im p .last ≡ false → length (linesFrom im (suc n) p) ≡ suc (length (linesFrom im n (headAt im p .next .0)))
   unfolding linesFrom
-  lines-more n p t = ap (λ (ps : List ℕ). suc (length ps)) (if-false [] (linesFrom im n (headAt im p .next)) t)
+  lines-more n p t = ap (λ (ps : List ℕ). suc (length ps)) (if-false [] (linesFrom im n (headAt im p .next .0)) t)
 
   -- line k is the last: there are k + 1
   at-last : (n k p : ℕ) → k < length (linesFrom im n p) → headAt im (lineFrom im k p) .last ≡ true → length (linesFrom im n p) ≡ k + 1
@@ -65,37 +65,37 @@ module _ (im : List ℕ) where
   at-last (suc n) zero p h t = lines-end n p t
   at-last (suc n) (suc k) p h t =
       by-test (headAt im p .last) (λ e. absurd (omega (arith, lines-end n p e)))
-      (λ e. let o = lines-more n p e in omega (arith, at-last n k (headAt im p .next) (omega arith) t))
+      (λ e. let o = lines-more n p e in omega (arith, at-last n k (headAt im p .next .0) (omega arith) t))
 
   -- line k is not, and more may be looked for: there is another
   at-more : (n k p : ℕ) → k < length (linesFrom im n p) → headAt im (lineFrom im k p) .last ≡ false → k + 1 < n → k + 1 < length (linesFrom im n p)
   unfolding lineFrom
   at-more zero k p h t l = absurd (omega arith)
-  at-more (suc n) zero p h t l = omega (arith, lines-more n p t, lines-some n (headAt im p .next) (omega arith))
+  at-more (suc n) zero p h t l = omega (arith, lines-more n p t, lines-some n (headAt im p .next .0) (omega arith))
   at-more (suc n) (suc k) p h t l =
       by-test (headAt im p .last) (λ e. absurd (omega (arith, lines-end n p e)))
-      (λ e. let o = lines-more n p e in omega (arith, at-more n k (headAt im p .next) (omega arith) t (omega arith)))
+      (λ e. let o = lines-more n p e in omega (arith, at-more n k (headAt im p .next .0) (omega arith) t (omega arith)))
 
-  line-on : (k p : ℕ) → headAt im (lineFrom im k p) .next ≡ lineFrom im (suc k) p
+  line-on : (k p : ℕ) → headAt im (lineFrom im k p) .next .0 ≡ lineFrom im (suc k) p
   unfolding lineFrom
   line-on zero p = refl
-  line-on (suc k) p = line-on k (headAt im p .next)
+  line-on (suc k) p = line-on k (headAt im p .next .0)
 
   module _ (t k p : ℕ) (h : Head) (e : p ≡ lineAt im t k) (f : h ≡ headAt im p) where
-    pub line-next : h .next ≡ lineAt im t (k + 1)
+    pub line-next : h .next .0 ≡ lineAt im t (k + 1)
     unfolding lineAt
-    line-next = let z : k + 1 ≡ suc k = omega arith in rw (z, f, e) (line-on k (titleAt im t .line))
+    line-next = let z : k + 1 ≡ suc k = omega arith in rw (z, f, e) (line-on k (titleAt im t .line .0))
 
     head-last : (b : Bool) → h .last ≡ b → headAt im (lineAt im t k) .last ≡ b
     head-last b q = sym (rw (f, e)) ∙ q
 
     ends : k < lineCount im t → h .last ≡ true → lineCount im t ≡ k + 1
     unfolding lineCount linesOf lineAt
-    ends l q = at-last 100 k (titleAt im t .line) l (head-last true q)
+    ends l q = at-last 100 k (titleAt im t .line .0) l (head-last true q)
 
     goes : k < lineCount im t → h .last ≡ false → k + 1 < 100 → k + 1 < lineCount im t
     unfolding lineCount linesOf lineAt
-    goes l q m = at-more 100 k (titleAt im t .line) l (head-last false q) m
+    goes l q m = at-more 100 k (titleAt im t .line .0) l (head-last false q) m
 
     pub known-turn : (count r : ℕ) → count ≡ min (k + 1) (lineCount im t)
         → r ≡ (if count ≤? k then count else if h .last then count else if mostLinesOfTable <? count then count else count + 1) → r ≡ min (k + 1 + 1) (lineCount im t)

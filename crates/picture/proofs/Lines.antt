@@ -12,7 +12,7 @@ use Rattle.laws.proofs.Overwriting.{length-fit}
 use borrow.Author.Tests.{eqb-true, eqb-false}
 use Rattle.laws.proofs.Cases.{if-true, if-false, if-eq, if-ne, by-test}
 use Rattle.cmf.specs.Readers.{textBytes, headAt, componentAt}
-use Rattle.cmf.specs.Places.{componentsFrom, componentsOf, lineAt, lineCount, lineFromHere, firstEditable}
+use Rattle.cmf.specs.Places.{componentsFrom, componentsOf, lineAt, lineCount, restOfLine, firstEditable}
 use Rattle.cmf.specs.declared.head.Head.{Head}
 use Rattle.cmf.specs.declared.component.Component.{Component}
 use Rattle.session.specs.Fits.{cursorLine, cursorHead}
@@ -23,7 +23,7 @@ use Rattle.session.specs.declared.session.Session.{Session}
 use Rattle.texts.specs.Row.{Put}
 use Rattle.texts.specs.Texts.{blank, star, colon, cellsText, fieldText}
 use Rattle.picture.specs.Rows.{greater, markOf, editMark, lineNumber, moreMark, titleRow, dot, prompt, passwordRow, visiting, componentText, dataText, submenuMark, lineRow}
-use Rattle.texts.proofs.Writing.{Rest, behind, same, rest-step, rest-end, padded, over-tail}
+use Rattle.texts.proofs.Writing.{Rest, put-then, same, rest-step, rest-end, padded, over-tail}
 
 -- ---- what one component shows
 
@@ -47,7 +47,7 @@ module _ {x z : List ℕ} {at r : ℕ} (im sheet : List ℕ) (s : Session) (p : 
 module _ {d e f all : List ℕ} {start m k : ℕ} (im sheet : List ℕ) (s : Session) where
   data-turn : (left p : ℕ) (c : Component) → 0 < left → c ≡ componentAt im p → Rest d start all e m (dataText im sheet s (componentsFrom im left p))
       → Put e m (componentText im sheet s p c) f k
-      → Rest d start all f k (dataText im sheet s (if c .last then [] else componentsFrom im (left - 1) (c .next)))
+      → Rest d start all f k (dataText im sheet s (if c .last then [] else componentsFrom im (left - 1) (c .next .0)))
   unfolding dataText componentsFrom
   data-turn zero p c h q r a = absurd (omega arith)
   data-turn (suc n) p c h q r a = let z : suc n - 1 ≡ n = omega arith in rw z (rest-step (rw (← q) at r) a)
@@ -61,7 +61,7 @@ module _ {d e f all : List ℕ} {start m k : ℕ} (im sheet : List ℕ) (s : Ses
       rest-end o (λ _. refl) (omega (arith, a .ends, o .size, r .size))
 
   pub data-next : (left p : ℕ) (c : Component) → 0 < left → c ≡ componentAt im p → Rest d start all e m (dataText im sheet s (componentsFrom im left p))
-      → Put e m (componentText im sheet s p c) f k → c .last ≡ false → Rest d start all f k (dataText im sheet s (componentsFrom im (left - 1) (c .next)))
+      → Put e m (componentText im sheet s p c) f k → c .last ≡ false → Rest d start all f k (dataText im sheet s (componentsFrom im (left - 1) (c .next .0)))
   data-next left p c h q r a t = rw (if-false _ _ t) at (data-turn left p c h q r a)
 
 pub data-done : (im sheet : List ℕ) (s : Session) (left p : ℕ) → left ≤ 0 → length (dataText im sheet s (componentsFrom im left p)) ≡ 0
@@ -80,14 +80,14 @@ last-cell (x ∷ a) r zero e p q = absurd (omega arith)
 last-cell (x ∷ a) r (suc n) e p q = ap (λ (z : List ℕ). x ∷ z) (last-cell a r n e (omega arith) q)
 
 pub line-row-is : {a : List ℕ} {e : ℕ} (im sheet : List ℕ) (s : Session) (k p : ℕ) (h : Head) (row : List ℕ) → 2 ≤ s .columns → length row ≡ s .columns → h ≡ headAt im p
-    → a ≡ fit blank (length (take (s .columns - 1) row)) ((if k =? s .here .cursor then greater else blank) ∷ dataText im sheet s (componentsFrom im (length im + 1) (h .component)))
+    → a ≡ fit blank (length (take (s .columns - 1) row)) ((if k =? s .here .cursor then greater else blank) ∷ dataText im sheet s (componentsFrom im (length im + 1) (h .component .0)))
     → e ≡ submenuMark h → set (a ++ drop (s .columns - 1) row) (s .columns - 1) e ≡ lineRow im sheet s k p
 unfolding lineRow componentsOf fit
 line-row-is {a = a} {e = e} im sheet s k p h row w l q f g =
     let n : length (take (s .columns - 1) row) ≡ suc (s .columns - 2) = omega (arith, length-take (s .columns - 1) row) in
     let m : length (drop (s .columns - 1) row) ≡ 1 = omega (arith, length-drop (s .columns - 1) row) in
-    let o : a ≡ (if k =? s .here .cursor then greater else blank) ∷ fit blank (s .columns - 2) (dataText im sheet s (componentsFrom im (length im + 1) (h .component))) = f ∙ rw n in
-    let i : length a ≡ s .columns - 1 = rw o (omega (arith, length-fit blank (s .columns - 2) (dataText im sheet s (componentsFrom im (length im + 1) (h .component))))) in
+    let o : a ≡ (if k =? s .here .cursor then greater else blank) ∷ fit blank (s .columns - 2) (dataText im sheet s (componentsFrom im (length im + 1) (h .component .0))) = f ∙ rw n in
+    let i : length a ≡ s .columns - 1 = rw o (omega (arith, length-fit blank (s .columns - 2) (dataText im sheet s (componentsFrom im (length im + 1) (h .component .0))))) in
     last-cell a (drop (s .columns - 1) row) (s .columns - 1) e i m ∙ rw (o, g, q)
 
 pub title-row-is : {x y u z t : List ℕ} {e m a : ℕ} (im : List ℕ) (s : Session) (count : ℕ) → 4 ≤ s .columns → length x ≡ s .columns
@@ -101,15 +101,15 @@ title-row-is {t = t} {e = e} {m = m} im s count a b n f g h i j o =
     ∙ rw (padded blank g h, b) (over-tail blank (s .columns) (s .columns - 4) t (e ∷ (lineNumber (s .here .cursor + 1) ++ (m ∷ []))) (omega arith) ∙ rw (i, j, n, f))
 
 pub password-row-is : {x y u v z : List ℕ} {d k a b c : ℕ} (im : List ℕ) (s : Session) (h : Head) (n : ℕ) → length x ≡ s .columns → h ≡ cursorHead im (s .here)
-    → d ≡ byteAt im (h .password) → k ≡ d - n → Put x 0 prompt y a → Put y a (replicate n star) u b → Put u b (replicate k dot) v c
+    → d ≡ byteAt im (h .password .0) → k ≡ d - n → Put x 0 prompt y a → Put y a (replicate n star) u b → Put u b (replicate k dot) v c
     → z ≡ over v c (replicate (length v - c) blank) → z ≡ passwordRow im s n
 unfolding passwordRow
-password-row-is im s h n l q e g a b c p = padded blank (behind a (behind b c)) p ∙ rw (l, g, e, q)
+password-row-is im s h n l q e g a b c p = padded blank (put-then a (put-then b c)) p ∙ rw (l, g, e, q)
 
-module _ (im : List ℕ) (l : Level) (h : Head) (f : Found) (e : h ≡ cursorHead im l) (g : f ≡ firstEditable im (lineFromHere im (h .component))) where
+module _ (im : List ℕ) (l : Level) (h : Head) (f : Found) (e : h ≡ cursorHead im l) (g : f ≡ firstEditable im (restOfLine im (h .component .0))) where
   first-is : f ≡ firstEditable im (componentsOf im (cursorLine im l))
   unfolding componentsOf cursorHead
-  first-is = g ∙ ap (λ (k : Head). firstEditable im (lineFromHere im (k .component))) e
+  first-is = g ∙ ap (λ (k : Head). firstEditable im (restOfLine im (k .component .0))) e
 
   pub mark-is : {r : ℕ} → r ≡ markOf f → r ≡ editMark im l
   unfolding editMark
@@ -136,7 +136,7 @@ module _ (im : List ℕ) (left p : ℕ) (c : Component) (all : Found) (mark r : 
       by-test (c .editable) (λ a. here-editable z a) (λ a. by-test (c .last) (λ b. here-last z a b) (λ b. absurd (n (here-none z a b)))))
       (λ h. let k = eqb-false mark 0 h in q ∙ if-ne mark 0 _ _ k ∙ cursorPlace k)
 
-  pub mark-next : c .last ≡ false → r ≡ 0 → firstEditable im (componentsFrom im (left - 1) (c .next)) ≡ all
+  pub mark-next : c .last ≡ false → r ≡ 0 → firstEditable im (componentsFrom im (left - 1) (c .next .0)) ≡ all
   mark-next b y =
       by-test (mark =? 0)
       (λ h. let z = eqb-true mark 0 h in
@@ -156,7 +156,7 @@ mark-turn im l k p mark other r e q f g n =
     (λ h. let o : r ≡ other = q ∙ if-false _ _ h in o ∙ g (λ y. n (o ∙ y)))
 
 pub line-marked : (im : List ℕ) (p mark : ℕ) (h : Head) → h ≡ headAt im p
-    → ((mark ≡ 0 → ⊥) → mark ≡ markOf (firstEditable im (componentsFrom im (length im + 1) (h .component)))) → (mark ≡ 0 → ⊥)
+    → ((mark ≡ 0 → ⊥) → mark ≡ markOf (firstEditable im (componentsFrom im (length im + 1) (h .component .0)))) → (mark ≡ 0 → ⊥)
     → mark ≡ markOf (firstEditable im (componentsOf im p))
 unfolding componentsOf
 line-marked im p mark h e f n = f n ∙ rw e

@@ -62,7 +62,7 @@ titleRow im s =
 
 -- how many digits the password of the cursor line has
 abbrev pub passwordLength : List ℕ → Level → ℕ
-passwordLength im l = byteAt im (cursorHead im l .password)
+passwordLength im l = byteAt im (cursorHead im l .password .0)
 
 -- 'Pwd:'
 abbrev pub prompt : List ℕ
@@ -123,7 +123,7 @@ rowAt im sheet s count k p = if k <? count then lineRow im sheet s k p else fit 
 unfoldable pub rowsFrom : List ℕ → List ℕ → Session → ℕ → ℕ → ℕ → ℕ → List ℕ
 rowsFrom im sheet s count zero k p = []
 rowsFrom im sheet s count (suc n) k p = rowAt im sheet s count k p
-    ++ rowsFrom im sheet s count n (k + 1) (headAt im p .next)
+    ++ rowsFrom im sheet s count n (k + 1) (headAt im p .next .0)
 
 -- the lines - 1 rows below row 0, from the first shown line on
 unfoldable pub rowsBelow : List ℕ → List ℕ → Session → List ℕ

@@ -55,7 +55,7 @@ fn cells_before(image: &[u8], line: usize, place: usize) -> usize
         (componentsOf (now (image .entry)) line)) ⌝ }
 {
     let h = read_head(image, line);
-    let mut p = h.component;
+    let mut p = h.component.0;
     let mut sum = 0;
     let mut left = image.len() + 1;
     while 0 < left {
@@ -67,7 +67,7 @@ fn cells_before(image: &[u8], line: usize, place: usize) -> usize
         if c.last {
             return sum;
         }
-        p = c.next;
+        p = c.next.0;
         left = left - 1;
     }
     sum

@@ -6,7 +6,7 @@ ghost use lib.ListN.{length};
 ghost use Rattle.laws.specs.Choice.{if_then_else_, _=?_};
 ghost use Rattle.laws.specs.Overwrite.{fit};
 ghost use Rattle.cmf.specs.Readers.{headAt};
-ghost use Rattle.cmf.specs.Places.{componentsOf, lineFromHere, firstEditable};
+ghost use Rattle.cmf.specs.Places.{componentsOf, restOfLine, firstEditable};
 ghost use Rattle.texts.specs.Row.{Put};
 ghost use Rattle.texts.specs.Texts.{blank, star, colon};
 ghost use Rattle.picture.specs.Rows.{greater, markOf, dataText, submenuMark, lineRow};
@@ -55,10 +55,10 @@ fn put_data(
     requires { ⌜ now cells ≡ session .work .cells ⌝ }
     ensures { λ r. ⌜ Put
         (now (row .entry)) start
-        (dataText (now (image .entry)) (now (sheet .entry)) session (lineFromHere (now (image .entry)) first))
+        (dataText (now (image .entry)) (now (sheet .entry)) session (restOfLine (now (image .entry)) first))
         (now (row .exit)) (r .end)
         × ((r .mark ≡ 0 → ⊥)
-        → r .mark ≡ markOf (firstEditable (now (image .entry)) (lineFromHere (now (image .entry)) first))) ⌝ }
+        → r .mark ≡ markOf (firstEditable (now (image .entry)) (restOfLine (now (image .entry)) first))) ⌝ }
 {
     let mut at = start;
     let mut mark = 0;
@@ -77,7 +77,7 @@ fn put_data(
         if c.last {
             return Marked { end: at, mark };
         }
-        p = c.next;
+        p = c.next.0;
         left = left - 1;
     }
     Marked {
@@ -116,12 +116,12 @@ fn put_start(
 ) -> u8
     requires { ⌜ now cells ≡ session .work .cells ⌝ }
     ensures { λ r. ⌜ ((r ≡ 0 → ⊥)
-        → r ≡ markOf (firstEditable (now (image .entry)) (lineFromHere (now (image .entry)) first))) ⌝ }
+        → r ≡ markOf (firstEditable (now (image .entry)) (restOfLine (now (image .entry)) first))) ⌝ }
     ensures { λ _. ⌜ now (row .exit)
         ≡ fit blank (length (now (row .entry)))
         ((if k =? session .here .cursor then greater else blank)
         ∷ dataText (now (image .entry)) (now (sheet .entry)) session
-        (lineFromHere (now (image .entry)) first)) ⌝ }
+        (restOfLine (now (image .entry)) first)) ⌝ }
 {
     let start = put(&mut *row, 0, cursor_mark(k, session.here.cursor));
     let data = put_data(&mut *row, start, image, sheet, session, cells, first);
@@ -155,7 +155,7 @@ pub(crate) fn put_line(
         session,
         cells,
         k,
-        h.component,
+        h.component.0,
     );
     row[end] = submenu_mark(h);
     mark

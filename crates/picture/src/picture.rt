@@ -19,6 +19,7 @@ use cmf::place::Found;
 use cmf::place::line_at;
 use cmf::place::line_count;
 use cmf::place::reach;
+use field::kind::ImagePlace;
 use session::fits::shape_fits;
 use session::session::Level;
 use session::session::Session;
@@ -28,7 +29,7 @@ use texts::row::pad;
 // is, and its mark in row 0, or 0.
 struct Known {
     count: usize,
-    place: usize,
+    place: ImagePlace,
     mark: u8,
 }
 
@@ -36,18 +37,18 @@ struct Known {
 fn known_to(image: &[u8], table: usize, k: usize) -> Known
     requires { ⌜ k < 256 ⌝ }
     ensures { λ r. ⌜ (r .count ≡ min (k + 1) (lineCount (now (image .entry)) table))
-        × (r .place ≡ lineAt (now (image .entry)) table k) ⌝ }
+        × (r .place .0 ≡ lineAt (now (image .entry)) table k) ⌝ }
 {
     let line = reach(image, table, k);
     match line {
         Found::At(p) => Known {
             count: k + 1,
-            place: p.0,
+            place: p,
             mark: 0,
         },
         Found::Nothing => Known {
             count: line_count(image, table),
-            place: line_at(image, table, k),
+            place: ImagePlace(line_at(image, table, k)),
             mark: 0,
         },
     }
@@ -88,11 +89,11 @@ fn chosen_mark(k: usize, cursor: u8, mark: u8, other: u8) -> u8
 // looked for where no row shows it.
 fn asked(image: &[u8], here: Level, lines: u8, k: usize, known: Known) -> Known
     requires { ⌜ (lines - 1 ≤ k) × (known .count ≡ min (k + 1) (lineCount (now image) (here .table .0)))
-        × (here .first ≤ here .cursor → here .cursor < k → known .place ≡ cursorLine (now image) here)
+        × (here .first ≤ here .cursor → here .cursor < k → known .place .0 ≡ cursorLine (now image) here)
         × ((known .mark ≡ 0 → ⊥) → known .mark ≡ editMark (now image) here) ⌝ }
     ensures { λ r. ⌜ (moreMark (r .count) (lines - 1) (here .cursor)
         ≡ moreMark (lineCount (now (image .entry)) (here .table .0)) (lines - 1) (here .cursor))
-        × (r .place ≡ cursorLine (now (image .entry)) here)
+        × (r .place .0 ≡ cursorLine (now (image .entry)) here)
         × ((r .mark ≡ 0 → ⊥) → r .mark ≡ editMark (now (image .entry)) here) ⌝ }
 {
     if here.first <= here.cursor {
@@ -102,7 +103,7 @@ fn asked(image: &[u8], here: Level, lines: u8, k: usize, known: Known) -> Known
     }
     Known {
         count: line_count(image, here.table.0),
-        place: here.cursor_line(image),
+        place: ImagePlace(here.cursor_line(image)),
         mark: known.mark,
     }
 }
@@ -139,7 +140,7 @@ fn put_rows(image: &[u8], sheet: &[u8], session: Session, picture: &mut [u8]) ->
         × (length (now picture) ≡ session .columns * session .lines) ⌝ }
     ensures { λ r. ⌜ (moreMark (r .count) (session .lines - 1) (session .here .cursor)
         ≡ moreMark (lineCount (now (image .entry)) (session .here .table .0)) (session .lines - 1)
-        (session .here .cursor)) × (r .place ≡ cursorLine (now (image .entry)) (session .here))
+        (session .here .cursor)) × (r .place .0 ≡ cursorLine (now (image .entry)) (session .here))
         × ((r .mark ≡ 0 → ⊥) → r .mark ≡ editMark (now (image .entry)) (session .here)) ⌝ }
     ensures { λ _. ⌜ now (picture .exit)
         ≡ over (now (picture .entry)) (session .columns)
@@ -152,7 +153,7 @@ fn put_rows(image: &[u8], sheet: &[u8], session: Session, picture: &mut [u8]) ->
     let cells = work.cells;
     let mut k = here.first as usize;
     let top = known_to(image, table, k);
-    let mut p = top.place;
+    let mut p = top.place.0;
     let mut count = top.count;
     let mut cursor = 0;
     let mut marked = 0;
@@ -177,12 +178,12 @@ fn put_rows(image: &[u8], sheet: &[u8], session: Session, picture: &mut [u8]) ->
         count = known_next(count, k, h.last);
         at = end;
         k = k + 1;
-        p = h.next;
+        p = h.next.0;
         left = left - 1;
     }
     let known = Known {
         count,
-        place: cursor,
+        place: ImagePlace(cursor),
         mark: marked,
     };
     asked(image, here, session.lines, k, known)
@@ -201,7 +202,7 @@ fn write_picture(image: &[u8], sheet: &[u8], session: Session, picture: &mut [u8
         image,
         session,
         known.count,
-        known.place,
+        known.place.0,
         known.mark,
     );
 }

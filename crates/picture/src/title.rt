@@ -34,7 +34,7 @@ fn edit_mark(image: &[u8], level: Level, line: usize, mark: u8) -> u8
         return mark;
     }
     let h = read_head(image, line);
-    let f = first_editable(image, h.component);
+    let f = first_editable(image, h.component.0);
     match f {
         Found::At(_) => b':',
         Found::Nothing => b'*',
@@ -102,7 +102,7 @@ fn put_password(row: &mut [u8], image: &[u8], session: Session, line: usize, typ
     ensures { λ _. ⌜ now (row .exit) ≡ passwordRow (now (image .entry)) session typed ⌝ }
 {
     let h = read_head(image, line);
-    let digits = byte_at(image, h.password) as usize;
+    let digits = byte_at(image, h.password.0) as usize;
     let n = typed as usize;
     let stars = put_all(&mut *row, 0, b"Pwd:");
     let dots = repeat(&mut *row, stars, b'*', n);

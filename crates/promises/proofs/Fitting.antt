@@ -82,15 +82,15 @@ module _ (im : List ℕ) (lines : ℕ) where
   unfolding levelsFit
   levels-less [] t x here h = and-l _ _ h
   levels-less (l ∷ ls) t x here h =
-      and-i (and-l _ _ h) (and-i (and-l _ _ (and-r _ _ h)) (levels-less ls (cursorHead im l .table) x here (and-r _ _ (and-r _ _ h))))
+      and-i (and-l _ _ h) (and-i (and-l _ _ (and-r _ _ h)) (levels-less ls (cursorHead im l .table .0) x here (and-r _ _ (and-r _ _ h))))
 
   -- a level more, below the cursor line of the one shown
   levels-more : (ls : List Level) (t : ℕ) (x here : Level) → levelsFit im lines t ls x ≡ true → cursorHead im x .submenu ≡ true
-      → levelFits im lines (cursorHead im x .table) here ≡ true → levelsFit im lines t (ls ++ (x ∷ [])) here ≡ true
+      → levelFits im lines (cursorHead im x .table .0) here ≡ true → levelsFit im lines t (ls ++ (x ∷ [])) here ≡ true
   unfolding levelsFit
   levels-more [] t x here h m b = and-i h (and-i m b)
   levels-more (l ∷ ls) t x here h m b =
-      and-i (and-l _ _ h) (and-i (and-l _ _ (and-r _ _ h)) (levels-more ls (cursorHead im l .table) x here (and-r _ _ (and-r _ _ h)) m b))
+      and-i (and-l _ _ h) (and-i (and-l _ _ (and-r _ _ h)) (levels-more ls (cursorHead im l .table .0) x here (and-r _ _ (and-r _ _ h)) m b))
 
   -- another cursor line of the table shown
   levels-moved : (ls : List Level) (t : ℕ) (x y : Level) → ((u : ℕ) → levelFits im lines u x ≡ true → levelFits im lines u y ≡ true)
@@ -98,7 +98,7 @@ module _ (im : List ℕ) (lines : ℕ) where
   unfolding levelsFit
   levels-moved [] t x y f h = f t h
   levels-moved (l ∷ ls) t x y f h =
-      and-i (and-l _ _ h) (and-i (and-l _ _ (and-r _ _ h)) (levels-moved ls (cursorHead im l .table) x y f (and-r _ _ (and-r _ _ h))))
+      and-i (and-l _ _ h) (and-i (and-l _ _ (and-r _ _ h)) (levels-moved ls (cursorHead im l .table .0) x y f (and-r _ _ (and-r _ _ h))))
 
 -- a table at its first line fits, were it any
 at-first : (im : List ℕ) (lines t : ℕ) → 2 ≤ lines → levelFits im lines t (level t 0 0) ≡ true
@@ -250,7 +250,7 @@ module _ (im : List ℕ) (c l : ℕ) where
             (λ _. flash-keeps)
 
         -- a submenu of the cursor line, at its first line
-        pub descended-keeps : cursorHead im (s .here) .submenu ≡ true → Keeps im c l (descended s (cursorHead im (s .here) .table))
+        pub descended-keeps : cursorHead im (s .here) .submenu ≡ true → Keeps im c l (descended s (cursorHead im (s .here) .table .0))
         unfolding descended
         descended-keeps m =
             by-keeps _

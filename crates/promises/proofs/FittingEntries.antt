@@ -21,7 +21,7 @@ use Rattle.session.specs.Passwords.{entryOver, lastDigit, digitStep, entryStep}
 use Rattle.session.specs.declared.session.Mode.the-variants as mode
 use Rattle.session.specs.declared.session.Session.{Session}
 use Rattle.journal.proofs.Reached.{cursor-line-in}
-use Rattle.protected.proofs.Passwords.{Stands, head-guarded}
+use Rattle.protected.proofs.Passwords.{PasswordThere, head-guarded}
 use Rattle.promises.proofs.Fitting.{Good, fits-of, Keeps, by-keeps, idle-good, doing-good, browsing-good, descended-keeps}
 
 -- ---- digits typed
@@ -46,9 +46,9 @@ digits-more ds n d k h = rw add-one (and-i (digits-before ds n n d (omega arith)
 
 module _ (im : List ℕ) (c l : ℕ) (shape : shapeFits c l ≡ true) (extent : ℕ) (w : WellFormed im extent) where
   -- the password of the cursor line
-  password-stands : (s : Session) → Good im c l s → cursorHead im (s .here) .protected ≡ true → Stands im (cursorHead im (s .here) .password)
+  password-there : (s : Session) → Good im c l s → cursorHead im (s .here) .protected ≡ true → PasswordThere im (cursorHead im (s .here) .password .0)
   unfolding cursorHead
-  password-stands s g p = head-guarded im (cursorLine im (s .here)) .guarded p (cursor-line-in im extent w s (fits-of im c l s shape g) .line .good)
+  password-there s g p = head-guarded im (cursorLine im (s .here)) .guarded p (cursor-line-in im extent w s (fits-of im c l s shape g) .line .good)
 
   -- a protected line has a submenu
   submenu-there : (s : Session) → cursorHead im (s .here) .protected ≡ true → cursorHead im (s .here) .submenu ≡ true
@@ -64,7 +64,7 @@ module _ (im : List ℕ) (c l : ℕ) (shape : shapeFits c l ≡ true) (extent : 
       (λ p. record {
         good =
             doing-good im c l s g (mode.Password 0) (s .work) (s .typed) (g .sized .cells) (g .sized .typed)
-            (and-i p (and-i (lt-ltb 0 (byteAt im (cursorHead im (s .here) .password)) (password-stands s g p .some)) refl));
+            (and-i p (and-i (lt-ltb 0 (byteAt im (cursorHead im (s .here) .password .0)) (password-there s g p .some)) refl));
       })
       (λ _. descended-keeps im c l s g b shape m))
       (λ _. record { good = g })

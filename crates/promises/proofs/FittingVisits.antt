@@ -29,7 +29,7 @@ use Rattle.session.specs.Browsing.{visitAt, enterAt, enterStep}
 use Rattle.session.specs.Visits.{movedTo, movedOn, followed, visitStep}
 use Rattle.session.specs.declared.session.Mode.the-variants as mode
 use Rattle.session.specs.declared.session.Session.{Session}
-use Rattle.journal.proofs.Components.{editable-holds, among-in, in-among, EditableIn, by-found, first-editable-in, next-editable-in}
+use Rattle.journal.proofs.Components.{editable-holds, in-member, member-in, EditableIn, by-found, first-editable-in, next-editable-in}
 use Rattle.journal.proofs.Reached.{cursor-line-in}
 use Rattle.journal.proofs.Executor.{pressed-says, work-legal}
 use Rattle.promises.proofs.Fitting.{Good, fits-of, Keeps, by-keeps, idle-good, doing-good, browsing-good}
@@ -53,7 +53,7 @@ module _ (im : List ℕ) (c l : ℕ) (shape : shapeFits c l ≡ true) (n : ℕ) 
     unfolding modeFits visitFits
     visit-good q v m e h z =
         doing-good im c l s g (mode.Visit q) v (s .typed) z (g .sized .typed)
-        (and-i (in-among (q .0) _ m) (and-i (editable-holds im (q .0) e) (and-i e (legal-fits _ v h))))
+        (and-i (member-in (q .0) _ m) (and-i (editable-holds im (q .0) e) (and-i e (legal-fits _ v h))))
 
     -- a visit that begins
     begun-good : (sheet : List ℕ) (q : ImagePlace) → List·Memᴰ (q .0) (lineOf s) → componentAt im (q .0) .editable ≡ true → Good im c l (visitAt im sheet s q)
@@ -102,6 +102,6 @@ module _ (im : List ℕ) (c l : ℕ) (shape : shapeFits c l ≡ true) (n : ℕ) 
       let here = visited s g p m in
       let k = componentAt im (p .0) .field .kind in
       by-keeps im c l _ (λ _. record { good = g })
-      (λ _. followed-keeps (withIdle s 0) (idle-good im c l s g 0) p (among-in (p .0) _ (and-l _ _ here)) sheet _ k (e =? enter) (s .work) _ _
+      (λ _. followed-keeps (withIdle s 0) (idle-good im c l s g 0) p (in-member (p .0) _ (and-l _ _ here)) sheet _ k (e =? enter) (s .work) _ _
       (pressed-says k (s .work) e .facts) (and-l _ _ (and-r _ _ (and-r _ _ here)))
       (λ f. pressed-legal k (s .work) e (work-legal k (s .work) (and-r _ _ (and-r _ _ (and-r _ _ here))) f)) (pressed-long k (s .work) e .long ∙ g .sized .cells))

@@ -4,6 +4,7 @@ pub mod WorkingCopies
 pub mod FittingVisits
 pub mod Answering
 pub mod Unrefused
+pub mod Lines
 pub mod Steps
 pub mod Pictures
 pub mod Starred

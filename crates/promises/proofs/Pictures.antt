@@ -38,7 +38,7 @@ here-shown : (im : List ℕ) (lines : ℕ) (ls : List Level) (t : ℕ) (here : L
 unfolding levelsFit
 here-shown im lines [] t here h =
     let x = level-true im lines t here h in subst (λ (u : ℕ). Shows im (lines - 1) u here) (sym (x .table)) x
-here-shown im lines (l ∷ ls) t here h = here-shown im lines ls (cursorHead im l .table) here (and-r _ _ (and-r _ _ h))
+here-shown im lines (l ∷ ls) t here h = here-shown im lines ls (cursorHead im l .table .0) here (and-r _ _ (and-r _ _ h))
 
 session-shown : (im : List ℕ) (s : Session) → sessionFits im s ≡ true → Shows im (s .lines - 1) (s .here .table .0) (s .here)
 unfolding sessionFits tablesFit
@@ -124,7 +124,7 @@ module _ (im : List ℕ) (s : Session) (a b : List ℕ) (h : AgreeWhereShown im 
   unfolding rowsFrom rowAt
   rows-show zero k p from to e = refl
   rows-show (suc n) k p from to e =
-      let rest = rows-show n (k + 1) (headAt im p .next) (omega arith) (omega arith) (line-next im (s .here .table .0) k p (headAt im p) e refl) in
+      let rest = rows-show n (k + 1) (headAt im p .next .0) (omega arith) (omega arith) (line-next im (s .here .table .0) k p (headAt im p) e refl) in
       let row : rowAt im a s (lineCount im (s .here .table .0)) k p ≡ rowAt im b s (lineCount im (s .here .table .0)) k p =
       by-both (k <? lineCount im (s .here .table .0))
       (λ t. line-shows k from (omega arith) (ltb-true k (lineCount im (s .here .table .0)) t) p e) (λ _. refl) in

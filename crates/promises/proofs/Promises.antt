@@ -14,10 +14,11 @@ use Rattle.field.specs.Values.{bytesOf}
 use Rattle.field.specs.Sheet.{sizeOf}
 use Rattle.field.specs.declared.record.Field.{Field}
 use Rattle.cmf.specs.Grammar.{WellFormed}
-use Rattle.acceptance.specs.Check.{entryOf, checked, refusalOf}
-use Rattle.acceptance.proofs.Acceptance.{accepted-exactly-when-well-formed, counted}
+use Rattle.cmf.specs.Places.{fieldPlaces, isIn}
+use Rattle.acceptance.specs.Check.{refusalOf}
+use Rattle.acceptance.proofs.Acceptance.{accepted-exactly-when-well-formed, fields-are}
 use Rattle.acceptance.proofs.Faulty.{refused-exactly-when}
-use Rattle.acceptance.proofs.Fields.{every-in, all-standing}
+use Rattle.acceptance.proofs.Fields.{every-in, all-in-image}
 use Rattle.session.specs.Events.{second}
 use Rattle.session.specs.Answers.{answerNumber}
 use Rattle.session.specs.Fits.{shapeFits, sessionFits}
@@ -30,12 +31,12 @@ use Rattle.picture.specs.declared.cursor.EditCursor.the-variants.{Nowhere, At}
 use Rattle.handset.specs.Refusals.{_before_, _unless_, sessionRefusal}
 use Rattle.handset.specs.Event.{eventRefusal, eventAnswer}
 use Rattle.handset.specs.Open.{openRefusal, openAnswer, openSheet}
-use Rattle.handset.specs.OptionText.{reached, itemsIn, textRefusal, optionText}
+use Rattle.handset.specs.OptionText.{itemsIn, textRefusal, optionText}
 use Rattle.handset.specs.Draw.{drawRefusal, drawCursor, drawnPicture}
 use Rattle.handset.proofs.Ordering.{first-given, next-given, holding, failing, none-before, none-unless}
 use Rattle.handset.proofs.Drawing.{refused-cursor, refused-picture, drawn-cursor, drawn-picture}
 use Rattle.handset.proofs.Stepping.{refused-step, refused-sheet, stepped, stepped-sheet}
-use Rattle.handset.proofs.Defaults.{others-stay}
+use Rattle.handset.proofs.AfterOpen.{others-stay}
 use Rattle.handset.proofs.Finding.{text-none, place-none, place-some}
 use Rattle.handset.proofs.Items.{item-is, first-item, items-in-turn}
 use Rattle.journal.specs.Journal.{allVisited}
@@ -50,6 +51,7 @@ use Rattle.journal.proofs.Beside.{played-apart}
 use Rattle.protected.proofs.Protected.{only-after-its-digits, every-protected-line-was-opened-by-its-digits}
 use Rattle.promises.proofs.Unrefused.{never-refused}
 use Rattle.promises.proofs.Answering.{told-apart}
+use Rattle.promises.proofs.Lines.{cursors-agree}
 use Rattle.promises.proofs.Steps.{event-promises}
 use Rattle.promises.proofs.Pictures.{draw-promises}
 use Rattle.promises.proofs.Starred.{starred-as-listed}
@@ -95,7 +97,7 @@ draw-order im extent s n = two-tests (refusalOf im extent) 12 1 (sessionFits im 
 text-order : (im : List ℕ) (extent place item : ℕ)
     → textRefusal im extent place item
     ≡ (if refusalOf im extent =? 0
-    then (if reached place (checked im extent .fields) and (item <? itemsIn (fieldAt im place .kind)) then 0 else 14)
+    then (if isIn place (fieldPlaces im) and (item <? itemsIn (fieldAt im place .kind)) then 0 else 14)
     else refusalOf im extent)
 unfolding textRefusal
 text-order im extent place item = one-test (refusalOf im extent) 14 _
@@ -132,15 +134,15 @@ demand-1 im = record {
 }
 
 -- every field of the derivation is read at its place, so that `IsField` misses none
-pub field-stands : (im : List ℕ) (n : ℕ) (w : WellFormed im n) (g : Field) → List·Memᴰ g (w .fields) → (fieldAt im (g .image .0) ≡ g) × IsField im (g .image .0)
-field-stands im n w g m =
-    let e = every-in (all-standing im n w) g m .reads in
+pub field-read : (im : List ℕ) (n : ℕ) (w : WellFormed im n) (g : Field) → List·Memᴰ g (w .fields) → (fieldAt im (g .image .0) ≡ g) × IsField im (g .image .0)
+field-read im n w g m =
+    let e = every-in (all-in-image im n w) g m .reads in
     (e, record { extent = n; formed = w; known = rw e m })
 
 -- what lies apart from every place of a field lies apart from every field
 apart-from-fields : (im : List ℕ) (n : ℕ) (w : WellFormed im n) (from k : ℕ)
     → Beside im from k → (g : Field) → List·Memᴰ g (w .fields) → (from + k ≤ g .sheet .0) ⊎ (g .sheet .0 + sizeOf g ≤ from)
-apart-from-fields im n w from k h g m = let f = field-stands im n w g m in rw (f .0) at (h .beside (g .image .0) (f .1))
+apart-from-fields im n w from k h g m = let f = field-read im n w g m in rw (f .0) at (h .beside (g .image .0) (f .1))
 
 sheet-beside : (im sheet : List ℕ) (columns lines : ℕ) (h : openRefusal im (length sheet) columns lines ≡ 0) (from n : ℕ) → Beside im from n
     → partAt from n (begunWith im sheet columns lines .sheet) ≡ partAt from n sheet
@@ -167,8 +169,8 @@ record Placed (p : ℕ) (fs : List Field) : Type 0 where
   place : field .image .0 ≡ p
 
 -- a field of the image is reached at its place
-field-reached : (f : Field) (fs : List Field) → List·Memᴰ f fs → reached (f .image .0) (map entryOf fs) ≡ true
-unfolding reached
+field-reached : (f : Field) (fs : List Field) → List·Memᴰ f fs → isIn (f .image .0) (map (λ (g : Field). g .image .0) fs) ≡ true
+unfolding isIn
 field-reached f [] m = absurd (List·Memᴰ·not-nil m)
 field-reached f (g ∷ fs) m =
     by-test (g .image .0 =? f .image .0) (λ z. if-true _ _ z)
@@ -184,12 +186,12 @@ unfolding textRefusal
 given-text im extent w f m item h =
     next-given _ _ (accepted-exactly-when-well-formed im extent .1 w)
     ∙ holding 14 _
-    (and-i (rw (counted im extent w .index) (field-reached f (w .fields) m))
-    (rw (field-stands im extent w f m .0) (lt-ltb item (itemsIn (f .kind)) h)))
+    (and-i (rw (← fields-are im extent w) (field-reached f (w .fields) m))
+    (rw (field-read im extent w f m .0) (lt-ltb item (itemsIn (f .kind)) h)))
 
 -- and nothing else is reached
-reached-field : (p : ℕ) (fs : List Field) → reached p (map entryOf fs) ≡ true → Placed p fs
-unfolding reached
+reached-field : (p : ℕ) (fs : List Field) → isIn p (map (λ (g : Field). g .image .0) fs) ≡ true → Placed p fs
+unfolding isIn
 reached-field p [] h = absurd (false≢true h)
 reached-field p (g ∷ fs) h =
     by-test (g .image .0 =? p) (λ z. record { field = g; known = List·Memᴰ·head refl; place = eqb-true _ _ z })
@@ -201,8 +203,8 @@ only-text im extent place item h =
     let n = none-before _ _ h in
     let w = accepted-exactly-when-well-formed im extent .0 (n .0) in
     let b = none-unless 14 _ (λ e. omega arith) (n .1) in
-    let r = reached-field place (w .fields) (rw (counted im extent w .index) at (and-l _ _ b)) in
-    (rw (r .place) at (field-stands im extent w (r .field) (r .known) .1), ltb-true item _ (and-r _ _ b))
+    let r = reached-field place (w .fields) (rw (← fields-are im extent w) at (and-l _ _ b)) in
+    (rw (r .place) at (field-read im extent w (r .field) (r .known) .1), ltb-true item _ (and-r _ _ b))
 
 -- a cursor is found again from its numbers
 cursor-once : (a b : EditCursor) → cursor.cursorPlace a ≡ cursor.cursorPlace b → a ≡ b
@@ -215,7 +217,8 @@ cursor-once (At r c) (At q d) h = cc
 pub demand-2 : (im : List ℕ) → Demand2 im
 unfolding begunWith openAnswer eventAnswer
 demand-2 im = record {
-  accepts = record { accepted = accepted-exactly-when-well-formed im; opens = open-well im; every-field = field-stands im };
+  accepts = record { accepted = accepted-exactly-when-well-formed im; open-accepts = open-well im; listed = fields-are im; every-field = field-read im };
+  reads = cursors-agree im;
   opens = λ sheet columns lines h. record {
     tells = h;
     shows = if-eq (openRefusal im (length sheet) columns lines) 0 _ _ h;
@@ -234,8 +237,8 @@ demand-2 im = record {
   texts = record {
     given = given-text im;
     only = only-text im;
-    first = first-item im;
-    next = λ extent place item h. items-in-turn im place item (item-is im extent place item h .inside);
+    first-item = first-item im;
+    next-item = λ extent place item h. items-in-turn im place item (item-is im extent place item h .inside);
     place = place-some im;
     own = item-is im;
   };
@@ -243,8 +246,8 @@ demand-2 im = record {
   every-event = event-promises im;
   every-draw = draw-promises im;
   protected = λ sheet columns lines es. record {
-    opens = only-after-its-digits im sheet columns lines es;
-    opened = every-protected-line-was-opened-by-its-digits im sheet columns lines es;
+    only-by-digits = only-after-its-digits im sheet columns lines es;
+    each-above = every-protected-line-was-opened-by-its-digits im sheet columns lines es;
   };
 }
 

@@ -14,10 +14,10 @@ use Rattle.field.specs.Settings.{digitCount, countedCells, stepFits, widthFits,
 use Rattle.field.specs.Sheet.{defaultWritten, begun, finishedIn}
 use Rattle.keys.specs.Keys as key
 use Rattle.cmf.specs.Readers.{imageOf, textsFrom, allDigits, passwordFits, titleBy, titleAt, headBy, headAt, fixedBytes, textCount, given, kindAt, defaultPlace, sheetPlaceAt, laidOut, componentBy, componentAt}
-use Rattle.cmf.specs.Places.{linesFrom, linesOf, componentsFrom, componentsOf, lineFrom, lineAt, lineCount, firstEditable, nextEditable, lineReach, linesReach, tableReach, componentPlaces, fieldsAmong, fieldsOf}
+use Rattle.cmf.specs.Places.{linesFrom, linesOf, componentsFrom, componentsOf, lineFrom, lineAt, lineCount, firstEditable, nextEditable, lineReach, linesReach, tableReach, componentPlaces, fieldsAmong, fieldsOf, isIn}
 use Rattle.acceptance.specs.Check.{fine, andThen, padded, takeTitle, agrees, linePlaced, countLine, takeLine, inSheet, apartFrom, takeField, takeComponent, onComponent, onComponents, onHead, onTitle, onSubmenu, onBody, onLine, onLines, onTable, walked, prologCode, checked, refusalOf}
 use Rattle.session.specs.Session.{opened, closed}
-use Rattle.session.specs.Fits.{shapeFits, cursorHead, levelFits, levelsFit, tablesFit, isIn, workFits, visitFits, digitsTo, entryFits, modeFits, sessionFits}
+use Rattle.session.specs.Fits.{shapeFits, cursorHead, levelFits, levelsFit, tablesFit, workFits, visitFits, digitsTo, entryFits, modeFits, sessionFits}
 use Rattle.session.specs.Events.{up, down, left, right, second}
 use Rattle.session.specs.Answers.{answerNumber}
 use Rattle.session.specs.Seconds.{later, delayOver, browseSecond}

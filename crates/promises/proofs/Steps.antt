@@ -55,13 +55,13 @@ module _ (im : List ℕ) (fields : List Field) (lines : ℕ) where
   level-left ls zero t here r h m = no-levels im fields t r
   level-left [] (suc left) t here r h m = go left (level-in im fields lines left t here r h .below m)
     where
-      go : (k : ℕ) → Reached im fields k (cursorHead im here .table) → 0 + 1 < suc k
-      go zero q = no-levels im fields (cursorHead im here .table) q
+      go : (k : ℕ) → Reached im fields k (cursorHead im here .table .0) → 0 + 1 < suc k
+      go zero q = no-levels im fields (cursorHead im here .table .0) q
       go (suc k) q = omega arith
   level-left (l ∷ ls) (suc left) t here r h m =
-      omega (arith, level-left ls left (cursorHead im l .table) here below (and-r _ _ (and-r _ _ h)) m)
+      omega (arith, level-left ls left (cursorHead im l .table .0) here below (and-r _ _ (and-r _ _ h)) m)
     where
-      below : Reached im fields left (cursorHead im l .table)
+      below : Reached im fields left (cursorHead im l .table .0)
       below = level-in im fields lines left t l r (and-l _ _ h) .below (and-l _ _ (and-r _ _ h))
 
 -- ---- results
@@ -160,14 +160,14 @@ module _ (im : List ℕ) (s : Session) (e : ℕ) where
 
   -- ---- an entry of n digits, fewer than the password of the line has, in a session whose line may have a submenu
 
-  module _ (n : ℕ) (m : s .mode ≡ mode.Password n) (few : n < byteAt im (cursorHead im (s .here) .password))
+  module _ (n : ℕ) (m : s .mode ≡ mode.Password n) (few : n < byteAt im (cursorHead im (s .here) .password .0))
       (room : length (s .above) ≡ 7 → s .outer + 1 < deepestTable) where
-    module _ (d : e ≤ lastDigitKey) (l : n + 1 ≡ byteAt im (cursorHead im (s .here) .password)) where
+    module _ (d : e ≤ lastDigitKey) (l : n + 1 ≡ byteAt im (cursorHead im (s .here) .password .0)) where
       abbrev typed : List ℕ
       typed = set (s .typed) n e
 
       -- the entry fails
-      fails : (length (s .above) ≡ 7 → rightTo im (cursorHead im (s .here) .password + 1) typed (n + 1) ≡ false)
+      fails : (length (s .above) ≡ 7 → rightTo im (cursorHead im (s .here) .password .0 + 1) typed (n + 1) ≡ false)
           → Kept (flash (entryOver (withIdle s 0) typed))
       fails w = record {
         idle = λ _. refl;
@@ -187,7 +187,7 @@ module _ (im : List ℕ) (s : Session) (e : ℕ) where
     unfolding digitStep
     digit-kept d =
         by-kept _ (λ _. heeds refl refl)
-        (λ l. last-kept d (omega (arith, ltb-false (n + 1) (byteAt im (cursorHead im (s .here) .password)) l)))
+        (λ l. last-kept d (omega (arith, ltb-false (n + 1) (byteAt im (cursorHead im (s .here) .password .0)) l)))
 
     wait-kept : e ≡ second → Kept (entrySecond im s)
     unfolding entrySecond
@@ -204,7 +204,7 @@ module _ (im : List ℕ) (s : Session) (e : ℕ) where
 
 -- the password of an entry that fits, and that a table may be opened below its line
 record Asks (im : List ℕ) (s : Session) (n : ℕ) : Type 0 where
-  few : n < byteAt im (cursorHead im (s .here) .password)
+  few : n < byteAt im (cursorHead im (s .here) .password .0)
   room : length (s .above) ≡ 7 → s .outer + 1 < deepestTable
 
 module _ (im sheet : List ℕ) (s : Session) (e : ℕ) (g : EventGranted im (length sheet) s e) where
@@ -217,7 +217,7 @@ module _ (im sheet : List ℕ) (s : Session) (e : ℕ) (g : EventGranted im (len
       let w = accepted-exactly-when-well-formed im (length sheet) .0 (g .granted .accepted) in
       let tables = and-l _ _ (and-r _ _ fits) in
       record {
-        few = ltb-true n (byteAt im (headAt im (cursorLine im (s .here)) .password)) (and-l _ _ (and-r _ _ entry));
+        few = ltb-true n (byteAt im (headAt im (cursorLine im (s .here)) .password .0)) (and-l _ _ (and-r _ _ entry));
         room = λ z.
             let o = ltb-true (s .outer) deepestTable (and-l _ _ tables) in
             let d =

@@ -40,7 +40,7 @@ use Rattle.handset.specs.Event.{eventRefusal, eventStep, eventSheet}
 use Rattle.handset.specs.Draw.{drawRefusal}
 use Rattle.handset.proofs.Ordering.{next-given, holding, failing, none-before, none-unless}
 use Rattle.handset.proofs.Stepping.{stepped}
-use Rattle.handset.proofs.Defaults.{opened-fits}
+use Rattle.handset.proofs.AfterOpen.{opened-fits}
 use Rattle.journal.specs.Sitting.{Sitting, begunWith, next, answerTo, played}
 use Rattle.promises.specs.Unrefused.{NothingRefused}
 use Rattle.promises.proofs.Fitting.{Sized, Good, good-of, fits-of, Keeps, by-keeps, idle-good, up-keeps, down-keeps, left-keeps, second-keeps}

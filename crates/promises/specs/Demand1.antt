@@ -7,7 +7,8 @@ use mathlib.Core.Bool.{false}
 use mathlib.Core.List.{List, []}
 use lib.ListN.{length}
 use Rattle.laws.specs.Choice.{if_then_else_, _and_, _=?_, _<?_, _≤?_}
-use Rattle.acceptance.specs.Check.{checked, refusalOf}
+use Rattle.cmf.specs.Places.{fieldPlaces, isIn}
+use Rattle.acceptance.specs.Check.{refusalOf}
 use Rattle.acceptance.specs.Faults.{Refused}
 use Rattle.session.specs.Session.{closed}
 use Rattle.session.specs.Events.{second}
@@ -20,7 +21,7 @@ use Rattle.picture.specs.declared.cursor.EditCursor.the-variants.{Nowhere}
 use Rattle.handset.specs.Open.{openRefusal, openAnswer, openSheet}
 use Rattle.handset.specs.Event.{eventRefusal, refusedWith, eventStep, eventAnswer, eventSheet}
 use Rattle.handset.specs.Draw.{drawRefusal, drawCursor, drawnPicture}
-use Rattle.handset.specs.OptionText.{reached, itemsIn, textRefusal, textAt, textPlace, optionText}
+use Rattle.handset.specs.OptionText.{itemsIn, textRefusal, textSpan, textPlace, optionText}
 use Rattle.journal.specs.Rules.{fieldAt}
 
 -- which number is given; of a sheet only the length is asked. `Refused` is defined apart from the check
@@ -48,8 +49,7 @@ pub record Numbers (im : List ℕ) : Type 0 where
   pub of-text : (extent place item : ℕ)
       → textRefusal im extent place item
       ≡ (if refusalOf im extent =? 0
-      then (if reached place (checked im extent .fields) and (item <? itemsIn (fieldAt im place .kind))
-      then 0 else 14)
+      then (if isIn place (fieldPlaces im) and (item <? itemsIn (fieldAt im place .kind)) then 0 else 14)
       else refusalOf im extent)
 
 -- a refused Open
@@ -66,12 +66,12 @@ pub record OpenRefused (im sheet : List ℕ) (columns lines : ℕ) : Type 0 wher
 pub record EventRefused (im sheet : List ℕ) (s : Session) (e : ℕ) : Type 0 where
   -- (by definition) returns the session that it got, with its number
   pub returns : eventStep im sheet s e ≡ refusedWith s (eventRefusal im (length sheet) s e)
-  -- (by definition) tells it as 01's number of a refusal
+  -- (by definition) tells it by a number of its own: DECISIONS, 2^24 and the refusal's
   pub tells : eventAnswer im sheet s e ≡ answerNumber (answer.Refused (eventRefusal im (length sheet) s e))
   -- (by definition) alters no byte of the sheet
   pub keeps : eventSheet im sheet s e ≡ sheet
 
--- a refused Draw; it is lent the sheet for reading only
+-- a refused Draw, whose number `drawRefusal` is; it is lent the sheet for reading only
 pub record DrawRefused (im sheet : List ℕ) (s : Session) (picture : List ℕ) : Type 0 where
   -- (by definition) has no edit cursor
   pub nowhere : drawCursor im (length sheet) s (length picture) ≡ cursor.cursorPlace Nowhere
@@ -89,9 +89,10 @@ pub record Demand1 (im : List ℕ) : Type 0 where
       → eventRefusal im (length sheet) s e ≢ 0 → EventRefused im sheet s e
   pub refused-draw : (sheet : List ℕ) (s : Session) (picture : List ℕ)
       → drawRefusal im (length sheet) s (length picture) ≢ 0 → DrawRefused im sheet s picture
-  -- (by definition) a refused Option text returns an empty part; it too is lent the sheet for reading only
+  -- (by definition) a refused Option text shows nothing of the image; it too is lent the sheet for reading
+  -- only
   pub refused-text : (extent place item : ℕ)
       → textRefusal im extent place item ≢ 0 → optionText im extent place item ≡ []
-  -- (by definition) and has neither a place nor a length
+  -- (by definition) and has 0 for place and length
   pub refused-place : (extent place item : ℕ) → textRefusal im extent place item ≢ 0
-      → textPlace im extent place item ≡ textAt (textRefusal im extent place item) 0 0
+      → textPlace im extent place item ≡ textSpan (textRefusal im extent place item) 0 0

@@ -12,9 +12,10 @@ use Rattle.field.specs.Sheet.{ownBytes}
 use Rattle.field.specs.declared.record.Field.{Field}
 use Rattle.cmf.specs.Grammar.{WellFormed}
 use Rattle.cmf.specs.Readers.{itemPlace}
+use Rattle.cmf.specs.Places.{fieldsOf}
 use Rattle.acceptance.specs.Check.{refusalOf}
 use Rattle.session.specs.Session.{noLevel, opened}
-use Rattle.session.specs.Fits.{shapeFits, cursorHead}
+use Rattle.session.specs.Fits.{shapeFits, sessionFits, cursorHead}
 use Rattle.session.specs.Answers.{answerNumber}
 use Rattle.session.specs.Step.{stepOf, sheetOf}
 use Rattle.session.specs.declared.session.Session.{Session}
@@ -24,10 +25,11 @@ use Rattle.picture.specs.declared.cursor.EditCursor.{EditCursor}
 use Rattle.handset.specs.Open.{openRefusal, openAnswer, openSheet}
 use Rattle.handset.specs.Event.{eventRefusal, eventStep, eventAnswer, eventSheet}
 use Rattle.handset.specs.Draw.{drawRefusal, drawCursor, drawnPicture}
-use Rattle.handset.specs.OptionText.{itemsIn, ItemIs, textRefusal, textAt, textPlace, optionText}
+use Rattle.handset.specs.OptionText.{itemsIn, ItemIs, textRefusal, textSpan, textPlace, optionText}
 use Rattle.journal.specs.Rules.{fieldAt, IsField, Beside}
 use Rattle.journal.specs.Sitting.{begunWith, next, played}
 use Rattle.protected.specs.Protected.{OpenedByDigits, Unlocked}
+use Rattle.promises.specs.Lines.{CursorsAgree}
 use Rattle.promises.specs.Steps.{EventPromises}
 use Rattle.promises.specs.Pictures.{DrawPromises}
 
@@ -36,8 +38,10 @@ pub record Accepts (im : List ℕ) : Type 0 where
   -- (theorem) an image is accepted, with a sheet of so many bytes, exactly when it is well formed
   pub accepted : (extent : ℕ) → (refusalOf im extent ≡ 0) ↔ WellFormed im extent
   -- (theorem) and Open accepts it with every shape that is allowed, and with no other
-  pub opens : (extent columns lines : ℕ)
+  pub open-accepts : (extent columns lines : ℕ)
       → (openRefusal im extent columns lines ≡ 0) ↔ ((shapeFits columns lines ≡ true) × WellFormed im extent)
+  -- (theorem) its fields are those at the places that the walk reaches, in the walk's order
+  pub listed : (extent : ℕ) (w : WellFormed im extent) → w .fields ≡ fieldsOf im
   -- (theorem) fields are named by their image places, and none is missed
   pub every-field : (extent : ℕ) (w : WellFormed im extent) (f : Field) → List·Memᴰ f (w .fields)
       → (fieldAt im (f .image .0) ≡ f) × IsField im (f .image .0)
@@ -81,22 +85,22 @@ pub record ToldApart : Type 0 where
   pub cursors : (a b : EditCursor) → cursor.cursorPlace a ≡ cursor.cursorPlace b → a ≡ b
 
 -- an option text
-pub record Texts (im : List ℕ) : Type 0 where
+pub record OptionTexts (im : List ℕ) : Type 0 where
   -- (theorem) is given for each item of each option
   pub given : (extent : ℕ) (w : WellFormed im extent) (f : Field) → List·Memᴰ f (w .fields)
       → (item : ℕ) → item < itemsIn (f .kind) → textRefusal im extent (f .image .0) item ≡ 0
   -- (theorem) and for nothing else
   pub only : (extent place item : ℕ) → textRefusal im extent place item ≡ 0
       → IsField im place × (item < itemsIn (fieldAt im place .kind))
-  -- (theorem) items come one after the other: the first after the option's ten bytes, each next one at its
-  -- end
-  pub first : (place : ℕ) → itemPlace im place 0 ≡ place + 10
-  pub next : (extent place item : ℕ) → textRefusal im extent place item ≡ 0
+  -- (by definition) the first item is after the option's ten bytes
+  pub first-item : (place : ℕ) → itemPlace im place 0 ≡ place + 10
+  -- (theorem) and each next one at the end of the one before it
+  pub next-item : (extent place item : ℕ) → textRefusal im extent place item ≡ 0
       → itemPlace im place (item + 1) ≡ itemPlace im place item + 1 + byteAt im (itemPlace im place item)
   -- (by definition) the text is after its item's length byte, as long as that says
   pub place : (extent place item : ℕ) → textRefusal im extent place item ≡ 0
       → textPlace im extent place item
-      ≡ textAt 0 (itemPlace im place item + 1) (byteAt im (itemPlace im place item))
+      ≡ textSpan 0 (itemPlace im place item + 1) (byteAt im (itemPlace im place item))
   -- (theorem) it is the item's own bytes, all of them in the image
   pub own : (extent place item : ℕ) → textRefusal im extent place item ≡ 0
       → ItemIs im place item (optionText im extent place item)
@@ -104,12 +108,12 @@ pub record Texts (im : List ℕ) : Type 0 where
 -- protected lines, in a sitting: Open, and then a list of events
 pub record ProtectedLines (im sheet : List ℕ) (columns lines : ℕ) (es : List ℕ) : Type 0 where
   -- (theorem) a protected line opens its submenu only after its own digits
-  pub opens : (e : ℕ) →
+  pub only-by-digits : (e : ℕ) →
       let t = played im (begunWith im sheet columns lines) es in
       cursorHead im (t .session .here) .protected ≡ true → t .session .outer < next im t e .session .outer
       → OpenedByDigits im (begunWith im sheet columns lines) es e (t .session .outer) (t .session .here)
   -- (theorem) so each protected line above the shown table was opened so, and the session has stayed below it
-  pub opened : (k : ℕ) →
+  pub each-above : (k : ℕ) →
       let s = played im (begunWith im sheet columns lines) es .session in
       let l = getD (s .above) k noLevel in
       k < s .outer → cursorHead im l .protected ≡ true → Unlocked im (begunWith im sheet columns lines) es k l
@@ -117,13 +121,16 @@ pub record ProtectedLines (im sheet : List ℕ) (columns lines : ℕ) (es : List
 -- an image is accepted exactly when it is well formed, and then the calls go by 01's rules
 pub record Demand2 (im : List ℕ) : Type 0 where
   pub accepts : Accepts im
+  -- the rules read lines as the grammar has them: see `Lines`
+  pub reads : (extent : ℕ) → WellFormed im extent → (s : Session) → sessionFits im s ≡ true
+      → CursorsAgree im s
   pub opens : (sheet : List ℕ) (columns lines : ℕ)
       → openRefusal im (length sheet) columns lines ≡ 0 → OpenDone im sheet columns lines
   pub steps : (sheet : List ℕ) (s : Session) (e : ℕ)
       → eventRefusal im (length sheet) s e ≡ 0 → EventDone im sheet s e
   pub draws : (sheet : List ℕ) (s : Session) (picture : List ℕ)
       → drawRefusal im (length sheet) s (length picture) ≡ 0 → DrawDone im sheet s picture
-  pub texts : Texts im
+  pub texts : OptionTexts im
   pub told-apart : ToldApart
   -- what no event does, refused or not: see `Steps`
   pub every-event : (sheet : List ℕ) (s : Session) (e : ℕ) → EventPromises im sheet s e

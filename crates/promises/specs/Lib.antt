@@ -1,6 +1,7 @@
 pub mod Promises
 pub mod Demand1
 pub mod Demand2
+pub mod Lines
 pub mod Steps
 pub mod Pictures
 pub mod Demand3

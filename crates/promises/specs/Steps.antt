@@ -23,10 +23,10 @@ pub record EntryFails (im : List ℕ) (s : Session) (e : ℕ) (z : Session) : Ty
   pub before : ℕ
   pub entry : s .mode ≡ mode.Password before
   pub digit : e ≤ lastDigitKey
-  pub last : before + 1 ≡ byteAt im (cursorHead im (s .here) .password)
+  pub last : before + 1 ≡ byteAt im (cursorHead im (s .here) .password .0)
   -- a session of the code has seven levels above the shown one in its array; a list could have any number
   pub wrong : length (s .above) ≡ 7
-      → rightTo im (cursorHead im (s .here) .password + 1) (set (s .typed) before e) (before + 1) ≡ false
+      → rightTo im (cursorHead im (s .here) .password .0 + 1) (set (s .typed) before e) (before + 1) ≡ false
   -- the idle count, the mode and the digits typed are new, and nothing else is
   pub after : z ≡ record {
     columns = s .columns;

@@ -39,7 +39,7 @@ use Rattle.handset.proofs.Stepping.{EventGranted, event-granted}
 use Rattle.journal.specs.Journal.{answered, ignored}
 use Rattle.protected.specs.Protected.{digitMore, entryMore, entryOpen, asDigits}
 use Rattle.journal.proofs.Reached.{cursor-line-in}
-use Rattle.protected.proofs.Passwords.{Stands, head-guarded, typed-right}
+use Rattle.protected.proofs.Passwords.{PasswordThere, head-guarded, typed-right}
 
 -- ---- the keys of an entry, an event more
 
@@ -113,8 +113,8 @@ pub data Move (im : List ℕ) (s : Session) (e : ℕ) (r : Stepped) : Type 0 whe
   enters : cursorHead im (s .here) .protected ≡ false → entryOpen (r .session .mode) ≡ false → Deeper s (r .session) → Move im s e r
   -- below a protected line, by the last of its digits
   unlocks : (n : ℕ) → Digit s e r n → entryOpen (r .session .mode) ≡ false → Deeper s (r .session)
-      → asDigits (take (suc n) (set (s .typed) n e)) ≡ textBytes im (cursorHead im (s .here) .password)
-      → r .session .here .table .0 ≡ cursorHead im (s .here) .table → Move im s e r
+      → asDigits (take (suc n) (set (s .typed) n e)) ≡ textBytes im (cursorHead im (s .here) .password .0)
+      → r .session .here .table .0 ≡ cursorHead im (s .here) .table .0 → Move im s e r
 
 module _ (im : List ℕ) (s : Session) (e : ℕ) where
   -- a choice of two results
@@ -218,8 +218,8 @@ module _ (im : List ℕ) (s : Session) (e : ℕ) where
     visit-moves sheet p = by-move _ (λ _. stays refl refl (omega arith) refl) (λ _. followed-moves sheet p _ _ _)
 
   -- ---- an entry of n digits, fewer than the password of the line has
-  module _ (z : length (s .typed) ≡ 8) (n : ℕ) (m : s .mode ≡ mode.Password n) (w : Stands im (cursorHead im (s .here) .password))
-      (few : n < byteAt im (cursorHead im (s .here) .password)) where
+  module _ (z : length (s .typed) ≡ 8) (n : ℕ) (m : s .mode ≡ mode.Password n) (w : PasswordThere im (cursorHead im (s .here) .password .0))
+      (few : n < byteAt im (cursorHead im (s .here) .password .0)) where
     -- a second ends it, or counts
     wait-moves : e =? second ≡ true → Move im s e (entrySecond im s)
     unfolding entrySecond
@@ -236,8 +236,8 @@ module _ (im : List ℕ) (s : Session) (e : ℕ) where
       over q a o t = Move.rests q (record { above = a; outer = o; typed = ap length t ∙ length-set (s .typed) n e })
 
       -- the last digit, and all are right
-      unlock-moves : byteAt im (cursorHead im (s .here) .password) ≡ suc n → rightTo im (cursorHead im (s .here) .password + 1) typed (suc n) ≡ true
-          → Move im s e (descended (entryOver (withIdle s 0) typed) (cursorHead im (s .here) .table))
+      unlock-moves : byteAt im (cursorHead im (s .here) .password .0) ≡ suc n → rightTo im (cursorHead im (s .here) .password .0 + 1) typed (suc n) ≡ true
+          → Move im s e (descended (entryOver (withIdle s 0) typed) (cursorHead im (s .here) .table .0))
       unfolding descended
       unlock-moves q h =
           by-move _
@@ -247,7 +247,7 @@ module _ (im : List ℕ) (s : Session) (e : ℕ) where
           (λ _. over refl refl (omega arith) refl)
 
       -- the last digit
-      last-moves : byteAt im (cursorHead im (s .here) .password) ≡ suc n → Move im s e (lastDigit im (withIdle s 0) (cursorHead im (s .here)) typed (n + 1))
+      last-moves : byteAt im (cursorHead im (s .here) .password .0) ≡ suc n → Move im s e (lastDigit im (withIdle s 0) (cursorHead im (s .here)) typed (n + 1))
       unfolding lastDigit
       last-moves q = rw (add-one n) (by-move _ (λ h. unlock-moves q h) (λ _. over refl refl (omega arith) refl))
 
@@ -258,7 +258,7 @@ module _ (im : List ℕ) (s : Session) (e : ℕ) where
           by-move _
           (λ _. Move.types n (record { mode = m; few = omega arith; key = k; taken = refl; typed = refl }) (rw add-one)
           (same refl refl refl (length-set (s .typed) n e)))
-          (λ h. last-moves (omega (arith, ltb-false (n + 1) (byteAt im (cursorHead im (s .here) .password)) h)))
+          (λ h. last-moves (omega (arith, ltb-false (n + 1) (byteAt im (cursorHead im (s .here) .password .0)) h)))
 
     -- every event of an entry
     entry-moves : Move im s e (entryStep im s n e)
@@ -273,8 +273,8 @@ module _ (im : List ℕ) (s : Session) (e : ℕ) where
 
 -- the password of an entry that fits
 record Asks (im : List ℕ) (s : Session) (n : ℕ) : Type 0 where
-  stands : Stands im (cursorHead im (s .here) .password)
-  few : n < byteAt im (cursorHead im (s .here) .password)
+  there : PasswordThere im (cursorHead im (s .here) .password .0)
+  few : n < byteAt im (cursorHead im (s .here) .password .0)
 
 module _ (im sheet : List ℕ) (s : Session) (e : ℕ) (z : length (s .typed) ≡ 8) where
   -- an event that is not refused finds such a password, since image and session were tested
@@ -285,8 +285,8 @@ module _ (im sheet : List ℕ) (s : Session) (e : ℕ) (z : length (s .typed) �
       let entry : modeFits im s (mode.Password n) ≡ true = rw m at (and-r _ _ (and-r _ _ fits)) in
       let w = accepted-exactly-when-well-formed im (length sheet) .0 (g .granted .accepted) in
       record {
-        stands = head-guarded im (cursorLine im (s .here)) .guarded (and-l _ _ entry) (cursor-line-in im (length sheet) w s fits .line .good);
-        few = ltb-true n (byteAt im (headAt im (cursorLine im (s .here)) .password)) (and-l _ _ (and-r _ _ entry));
+        there = head-guarded im (cursorLine im (s .here)) .guarded (and-l _ _ entry) (cursor-line-in im (length sheet) w s fits .line .good);
+        few = ltb-true n (byteAt im (headAt im (cursorLine im (s .here)) .password .0)) (and-l _ _ (and-r _ _ entry));
       }
 
   -- by the mode
@@ -294,7 +294,7 @@ module _ (im sheet : List ℕ) (s : Session) (e : ℕ) (z : length (s .typed) �
   unfolding stepIn
   mode-moves mode.Browsing q g = browse-moves im s e (ap entryOpen q) sheet
   mode-moves (mode.Visit p) q g = visit-moves im s e (ap entryOpen q) sheet p
-  mode-moves (mode.Password n) q g = let a = asked n q g in entry-moves im s e z n q (a .stands) (a .few)
+  mode-moves (mode.Password n) q g = let a = asked n q g in entry-moves im s e z n q (a .there) (a .few)
 
   -- every event; a refused one leaves all as it was
   pub event-moves : Move im s e (eventStep im sheet s e)

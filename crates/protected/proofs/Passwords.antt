@@ -22,14 +22,14 @@ use Rattle.protected.specs.Protected.{asDigits}
 -- ---- the password of a line
 
 -- the password at a place has 1 to 8 digits, and they are all in the image
-pub record Stands (im : List ℕ) (at : ℕ) : Type 0 where
+pub record PasswordThere (im : List ℕ) (at : ℕ) : Type 0 where
   pub some : 1 ≤ byteAt im at
   pub few : byteAt im at ≤ 8
   pub inside : at + 1 + byteAt im at ≤ length im
 
 -- the password of a line that is protected by a good one; a protected line has a submenu
 pub record Guarded (im : List ℕ) (h : Head) : Type 0 where
-  pub guarded : h .protected ≡ true → h .typeable ≡ true → Stands im (h .password)
+  pub guarded : h .protected ≡ true → h .typeable ≡ true → PasswordThere im (h .password .0)
   pub submenu : h .protected ≡ true → h .submenu ≡ true
 
 module _ (im : List ℕ) where
@@ -93,11 +93,11 @@ module _ (im : List ℕ) where
       rw (take-suc ds n 0 l, map-append, right-digits ds at n (omega arith) (omega arith) (and-l _ _ h), take-suc (drop at im) n 0 here, getD-drop, e)
 
   -- which are its text
-  text-is : (at : ℕ) → Stands im at → textBytes im at ≡ partAt (at + 1) (byteAt im at) im
+  text-is : (at : ℕ) → PasswordThere im at → textBytes im at ≡ partAt (at + 1) (byteAt im at) im
   unfolding textBytes
   text-is at w = if-true _ _ (le-room (length im) at (1 + byteAt im at) (omega arith))
 
   -- a whole password's worth of right digits
-  pub typed-right : (at : ℕ) (ds : List ℕ) (n : ℕ) → Stands im at → byteAt im at ≡ suc n → length ds ≡ 8 → rightTo im (at + 1) ds (suc n) ≡ true
+  pub typed-right : (at : ℕ) (ds : List ℕ) (n : ℕ) → PasswordThere im at → byteAt im at ≡ suc n → length ds ≡ 8 → rightTo im (at + 1) ds (suc n) ≡ true
       → asDigits (take (suc n) ds) ≡ textBytes im at
   typed-right at ds n w e l h = right-digits ds (at + 1) (suc n) (omega arith) (omega arith) h ∙ sym (text-is at w ∙ rw e)

@@ -155,8 +155,8 @@ module _ (im : List ℕ) (t : Sitting) (es : List ℕ) (h : Holds im t es (playe
       (rw (d .taken, take-suc-set (s .typed) n e few) (digit-typed (right ∷ take n (s .typed)) e (d .key)))
 
   -- the line that was opened by the event, and the level that went above
-  opened-by : (n : ℕ) → Digit s e r n → asDigits (take (suc n) (set (s .typed) n e)) ≡ textBytes im (cursorHead im (s .here) .password)
-      → r .session .here .table .0 ≡ cursorHead im (s .here) .table → Deeper s (r .session) → OpenedByDigits im t es e (s .outer) (s .here)
+  opened-by : (n : ℕ) → Digit s e r n → asDigits (take (suc n) (set (s .typed) n e)) ≡ textBytes im (cursorHead im (s .here) .password .0)
+      → r .session .here .table .0 ≡ cursorHead im (s .here) .table .0 → Deeper s (r .session) → OpenedByDigits im t es e (s .outer) (s .here)
   unfolding next answerTo
   opened-by n d ds b c = record {
     digits = take (suc n) (set (s .typed) n e);

@@ -91,10 +91,10 @@ pub record EndsWithEntry (im : List ℕ) (t : Sitting) (es : List ℕ) (k : ℕ)
 pub record OpenedByDigits (im : List ℕ) (t : Sitting) (es : List ℕ) (e k : ℕ) (l : Level) : Type 0 where
   pub digits : List ℕ
   pub entry : EndsWithEntry im t (es ++ (e ∷ [])) k l digits
-  pub password : asDigits digits ≡ textBytes im (cursorHead im l .password)
+  pub password : asDigits digits ≡ textBytes im (cursorHead im l .password .0)
   pub last : e ≤ lastDigitKey
   pub taken : answerTo im (played im t es) e ≡ answer.Taken
-  pub shown : next im (played im t es) e .session .here .table .0 ≡ cursorHead im l .table
+  pub shown : next im (played im t es) e .session .here .table .0 ≡ cursorHead im l .table .0
   pub deep : next im (played im t es) e .session .outer ≡ k + 1
   pub level : getD (next im (played im t es) e .session .above) k noLevel ≡ l
 

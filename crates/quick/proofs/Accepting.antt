@@ -27,15 +27,15 @@ use Rattle.quick.proofs.Marks.{covers-apart, covers-kept, covers-add}
 -- ---- states that have come as far
 
 -- such a state has refused nothing, so the next step is taken
-pub stands-then : {w : Tally} {m : List ℕ} {x : State} (y : State) → AsFar w m x → andThen x y ≡ y
+pub far-then : {w : Tally} {m : List ℕ} {x : State} (y : State) → AsFar w m x → andThen x y ≡ y
 unfolding andThen fine
-stands-then y t = if-true y _ (rw (t .is) refl)
+far-then y t = if-true y _ (rw (t .is) refl)
 
 -- a state that is known has come as far
-pub stands-at :
+pub far-at :
     {w : Tally} {m : List ℕ} (x : State) (at lines : ℕ) (es : List Entry) → x ≡ cameTo at lines es → at ≡ w .at → lines ≡ w .lines → length es ≡ w .fields →
     Covers m es → AsFar w m x
-stands-at x at lines es e a l n c = rw e (record { is = rw (a, l) refl; count = n; covers = c })
+far-at x at lines es e a l n c = rw e (record { is = rw (a, l) refl; count = n; covers = c })
 
 module _ (im : List ℕ) where
   abbrev A : Agree im
@@ -67,24 +67,24 @@ module _ (im : List ℕ) where
   unfolding profileOf
   option-passes {p = p} sure c e n k = record { fields = optionAt im p ∷ []; component = c; lines = refl; claims = Claims.one n refl (rw e at k) }
 
-  component-stands :
+  component-far :
       {extent : ℕ} {v w : Tally} {old new : List ℕ} (p : ℕ) (s : State) → extent ≤ longestSheet → Aligned im 0 (v .at) p → Passes im extent p v w old new → AsFar v old s →
       AsFar w new (onComponent im extent mostFields p s)
-  component-stands {extent} {v} {w} {old} {new} p s h a q t =
+  component-far {extent} {v} {w} {old} {new} p s h a q t =
       let es : List Entry = s .fields in
       let g = takes-claims es h (t .count) (t .covers) (q .claims) in
-      stands-at (onComponent im extent mostFields p s) (w .at) (v .lines) (put es (q .fields))
+      far-at (onComponent im extent mostFields p s) (w .at) (v .lines) (put es (q .fields))
       (ap (onComponent im extent mostFields p) (t .is) ∙ component-goes im A extent mostFields p (w .at) (v .at) (v .lines) es (q .fields) (q .component) a g)
       refl (sym (q .lines)) (claims-count es (t .count) (q .claims)) (claims-cover es (t .covers) (q .claims))
 
   -- padding before a place, as the grammar has it
   pub even-place : (at p : ℕ) → p ≡ evenFrom at → p < length im → padded im at p ≡ true → Aligned im 0 at p
-  even-place at p e i z = A .even-aligned at p (record { stands = e; zeroed = padded-reads im at p z }) i
+  even-place at p e i z = A .even-aligned at p (record { is = e; zeroed = padded-reads im at p z }) i
 
   -- ---- the components of a line: those that are left, done to a state that has come as far, are the whole
 
   pub going-start : (extent : ℕ) (u : Tally) (m : List ℕ) → AmongParts im extent u u m m
-  going-start extent u m = record { go = λ s h t. record { here = s; fuel = length im + 1; stands = t; rest = refl; enough = omega arith } }
+  going-start extent u m = record { go = λ s h t. record { here = s; fuel = length im + 1; far = t; rest = refl; enough = omega arith } }
 
   module _ {extent : ℕ} {v w : Tally} {mid new : List ℕ} (a : Aligned im 0 (v .at) (evenFrom (v .at))) (q : Passes im extent (evenFrom (v .at)) v w mid new) where
     abbrev p : ℕ
@@ -97,7 +97,7 @@ module _ (im : List ℕ) where
     last-is true e = (λ z. absurd (omega (arith, A .component-reads p reads-none .last e)), λ _. refl)
     last-is false e = (λ _. refl, λ z. absurd (omega (arith, A .component-reads p reads-none .more e)))
 
-    next-is : componentAt im p .next ≡ evenFrom (w .at)
+    next-is : componentAt im p .next .0 ≡ evenFrom (w .at)
     next-is = A .component-reads p reads-none .next ∙ ap evenFrom (A .component-is (q .component) .ends)
 
     pub onward : v .at < w .at
@@ -117,15 +117,15 @@ module _ (im : List ℕ) where
         by : (k : ℕ) → g .fuel ≡ k → PartsLeft im extent first s w new
         by zero e = absurd (omega (arith, g .enough, inside))
         by (suc k) e =
-            let t = component-stands p (g .here) h a q (g .stands) in
+            let t = component-far p (g .here) h a q (g .far) in
             record {
               here = onComponent im extent mostFields p (g .here);
               fuel = k;
-              stands = t;
+              far = t;
               rest =
                   g .rest
-                  ∙ rw (e, if-false [] (componentsFrom im k (componentAt im p .next)) (last-is (componentAt im p .last) refl .0 z), next-is)
-                  (stands-then (onComponents im extent mostFields (componentsFrom im k (evenFrom (w .at))) (onComponent im extent mostFields p (g .here))) t);
+                  ∙ rw (e, if-false [] (componentsFrom im k (componentAt im p .next .0)) (last-is (componentAt im p .last) refl .0 z), next-is)
+                  (far-then (onComponents im extent mostFields (componentsFrom im k (evenFrom (w .at))) (onComponent im extent mostFields p (g .here))) t);
               enough = omega (arith, g .enough, onward);
             }
 
@@ -138,8 +138,8 @@ module _ (im : List ℕ) where
         by : (k : ℕ) → g .fuel ≡ k → AsFar w new (onComponents im extent mostFields (componentsFrom im (length im + 1) first) s)
         by zero e = absurd (omega (arith, g .enough, inside))
         by (suc k) e =
-            let t = component-stands p (g .here) h a q (g .stands) in
-            rw (g .rest, e, if-true [] (componentsFrom im k (componentAt im p .next)) (last-is (componentAt im p .last) refl .1 z), stands-then (onComponent im extent mostFields p (g .here)) t) t
+            let t = component-far p (g .here) h a q (g .far) in
+            rw (g .rest, e, if-true [] (componentsFrom im k (componentAt im p .next .0)) (last-is (componentAt im p .last) refl .1 z), far-then (onComponent im extent mostFields p (g .here)) t) t
 
     pub going-more : {u : Tally} {old : List ℕ} → lastBit im p ≡ 0 → AmongParts im extent u v old mid → AmongParts im extent u w old new
     going-more {u} z g = record { go = λ s h t. more-go (evenFrom (u .at)) s h z (g .go s h t) }

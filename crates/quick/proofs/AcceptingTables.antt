@@ -20,7 +20,7 @@ use Rattle.quick.specs.Accept.{Placed, Covers, AsFar, Reaches, titled, h
 use Rattle.acceptance.proofs.Steps.{title-goes, head-goes}
 use Rattle.acceptance.proofs.Line.{last-marked, more-marked, submenu-marked, plain-marked}
 use Rattle.acceptance.proofs.Tables.{lines-last, lines-more}
-use Rattle.quick.proofs.Accepting.{stands-then, stands-at}
+use Rattle.quick.proofs.Accepting.{far-then, far-at}
 
 -- the tally after a submenu
 abbrev pub returned : Tally → Tally → Tally
@@ -48,7 +48,7 @@ module _ (im : List ℕ) (extent : ℕ) where
     known : HeadReads im p
     known = A .head-reads p reads
 
-    first-component : headAt im p .component ≡ evenFrom end
+    first-component : headAt im p .component .0 ≡ evenFrom end
     first-component = known .component ∙ ap evenFrom (A .head-is (q .head) .ends)
 
     module _ (s : State) (h : extent ≤ longestSheet) (t : AsFar w old s) (submenu : ℕ → State → State) where
@@ -58,26 +58,26 @@ module _ (im : List ℕ) (extent : ℕ) where
       abbrev y : State
       y = onComponents im extent mostFields (componentsOf im p) x
 
-      head-stands : AsFar (headed w end) old x
-      head-stands =
-          stands-at x end (w .lines + 1) (s .fields)
+      head-far : AsFar (headed w end) old x
+      head-far =
+          far-at x end (w .lines + 1) (s .fields)
           (ap (onHead im extent mostFields n before p) (t .is) ∙ head-goes im A extent mostFields n before p end (w .at) (w .lines) (s .fields) (q .head) (q .aligned) few (q .room))
           refl refl (t .count) (t .covers)
 
-      body-stands : AsFar b mid y
+      body-far : AsFar b mid y
       unfolding componentsOf
-      body-stands = rw first-component (c .reach x h head-stands)
+      body-far = rw first-component (c .reach x h head-far)
 
       -- what is left is the submenu
       line-is : onLine im extent mostFields submenu n before p s ≡ onSubmenu im extent mostFields submenu (headAt im p) y
       unfolding onLine onBody
-      line-is = stands-then _ head-stands ∙ stands-then _ body-stands
+      line-is = far-then _ head-far ∙ far-then _ body-far
 
     pub plain-line : (below : ℕ) → hasSubmenu im p ≡ 0 → Reaches extent (line below n before p) w b old mid
     unfolding onSubmenu
     plain-line below z = record {
       reach = λ s h t.
-          rw (line-is s h t (onTable im extent mostFields below) ∙ if-false _ _ (plain-marked im A known z)) (body-stands s h t (onTable im extent mostFields below));
+          rw (line-is s h t (onTable im extent mostFields below) ∙ if-false _ _ (plain-marked im A known z)) (body-far s h t (onTable im extent mostFields below));
     }
 
     pub deep-line :
@@ -85,9 +85,9 @@ module _ (im : List ℕ) (extent : ℕ) where
     unfolding onSubmenu if_then_else_
     deep-line below {r} {new} z d = record {
       reach = λ s h t.
-          let u = body-stands s h t (onTable im extent mostFields below) in
+          let u = body-far s h t (onTable im extent mostFields below) in
           let v = d .reach (y s h t (onTable im extent mostFields below)) h u in
-          stands-at _ (b .at) (r .lines) (onTable im extent mostFields below (submenuTable im p) (y s h t (onTable im extent mostFields below)) .fields)
+          far-at _ (b .at) (r .lines) (onTable im extent mostFields below (submenuTable im p) (y s h t (onTable im extent mostFields below)) .fields)
           (line-is s h t (onTable im extent mostFields below) ∙ if-true _ _ (submenu-marked im A known z)
           ∙ rw (known .table, ap (λ (o : State). o .progress) (v .is), ap (λ (o : State). o .progress .at) (u .is)) refl)
           refl refl (v .count) (v .covers);
@@ -100,7 +100,7 @@ module _ (im : List ℕ) (extent : ℕ) where
     lines n before ps = onLines im extent mostFields (onTable im extent mostFields below) n before ps
 
     pub going-start : (u : Tally) (m : List ℕ) → AmongLines im extent below first u m 0 0 first u m
-    going-start u m = record { go = λ s h t. record { here = s; stands = t; rest = refl } }
+    going-start u m = record { go = λ s h t. record { here = s; far = t; rest = refl } }
 
     module _ {u : Tally} {old : List ℕ} {n before p : ℕ} {v w : Tally} {mid new : List ℕ} (few : n < mostLinesOfTable) (z : headAt im p .refusal ≡ 0) (c : Reaches extent (line below n before p) v w mid new) (g : AmongLines im extent below first u old n before p v mid) where
       one-more : mostLinesOfTable + 1 - n ≡ suc (mostLinesOfTable - n)
@@ -114,13 +114,13 @@ module _ (im : List ℕ) (extent : ℕ) where
       going-more b = record {
         go = λ s h t.
             let o = g .go s h t in
-            let k = c .reach (o .here) h (o .stands) in
+            let k = c .reach (o .here) h (o .far) in
             record {
               here = line below n before p (o .here);
-              stands = k;
+              far = k;
               rest =
                   o .rest
-                  ∙ rw (one-more, rest-of, lines-more im (mostLinesOfTable - n) p (more-marked im A (A .head-reads p z) b), A .head-reads p z .next) (stands-then _ k);
+                  ∙ rw (one-more, rest-of, lines-more im (mostLinesOfTable - n) p (more-marked im A (A .head-reads p z) b), A .head-reads p z .next) (far-then _ k);
             };
       }
 
@@ -129,25 +129,25 @@ module _ (im : List ℕ) (extent : ℕ) where
       going-last b = record {
         reach = λ s h t.
             let o = g .go s h t in
-            let k = c .reach (o .here) h (o .stands) in
-            rw (o .rest, one-more, lines-last im (mostLinesOfTable - n) p (last-marked im A (A .head-reads p z) b), stands-then (line below n before p (o .here)) k) k;
+            let k = c .reach (o .here) h (o .far) in
+            rw (o .rest, one-more, lines-last im (mostLinesOfTable - n) p (last-marked im A (A .head-reads p z) b), far-then (line below n before p (o .here)) k) k;
       }
 
   -- ---- a table
 
   pub table-reaches :
       (t : ℕ) {left below : ℕ} {title : read-title.Title} {v w r : Tally} {old new : List ℕ} → left ≡ suc below → title ≡ titleAt im t → title .refusal ≡ 0 →
-      v ≡ titled w (title .end) → Reaches extent (lines below (title .line) 0 0 (linesFrom im (mostLinesOfTable + 1) (title .line))) v r old new →
+      v ≡ titled w (title .end) → Reaches extent (lines below (title .line .0) 0 0 (linesFrom im (mostLinesOfTable + 1) (title .line .0))) v r old new →
       Reaches extent (table left t) w r old new
   unfolding onTable linesOf
   table-reaches t {left} {below} {title} {w = w} e f z b c = record {
     reach = λ s h k.
         let q : titleAt im t .refusal ≡ 0 = rw f at z in
         let o =
-        stands-at (onTitle im extent mostFields t s) (titleAt im t .end) (w .lines) (s .fields)
+        far-at (onTitle im extent mostFields t s) (titleAt im t .end) (w .lines) (s .fields)
         (ap (onTitle im extent mostFields t) (k .is) ∙ title-goes im A extent mostFields t (w .at) (w .lines) (s .fields) q) (ap (λ (x : read-title.Title). x .end) (sym f)) refl
         (k .count) (k .covers) in
-        rw (e, ← f, stands-then (onLines im extent mostFields (onTable im extent mostFields below) 0 0 (linesFrom im (mostLinesOfTable + 1) (title .line)) (onTitle im extent mostFields t s)) o)
+        rw (e, ← f, far-then (onLines im extent mostFields (onTable im extent mostFields below) 0 0 (linesFrom im (mostLinesOfTable + 1) (title .line .0)) (onTitle im extent mostFields t s)) o)
         ((rw b at c) .reach (onTitle im extent mostFields t s) h o);
   }
 

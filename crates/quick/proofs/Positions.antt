@@ -25,7 +25,7 @@ pub unmarked : (x : ℕ) → (x / 128 % 2 =? 1) ≡ false → x / 128 % 2 ≡ 0
 unmarked x e = let q = eqb-false (x / 128 % 2) 1 e in omega arith
 
 abbrev spot : Tally → ℕ → ℕ → Bool → Position
-spot w n line done = record { tally = w; n = n; line = line; done = done }
+spot w n line done = record { tally = w; n = n; line = record { 0 = line }; done = done }
 
 module _ (im : List ℕ) (extent : ℕ) where
   -- a head ends after its line's place
@@ -35,7 +35,7 @@ module _ (im : List ℕ) (extent : ℕ) where
   pub head-fits : {n before p end : ℕ} → Head im n before p end → end ≤ length im
   head-fits {p = p} h = rw (agree im .head-is h .ends) at (agree im .head-reads p (agree im .head-is h .refusal) .inside)
 
-  pub moves-none : (s : Position) (m : List ℕ) → passwordAt im (s .line) ≤ length im → s .tally .at ≤ length im → Moves im extent s s m m
+  pub moves-none : (s : Position) (m : List ℕ) → passwordAt im (s .line .0) ≤ length im → s .tally .at ≤ length im → Moves im extent s s m m
   moves-none s m i f = record { inside = i; counted = omega arith; onward = omega arith; fits = f; carry = λ _ _ _ _ a. a }
 
   pub moves-then : {s r t : Position} {old mid new : List ℕ} → Moves im extent s r old mid → Moves im extent r t mid new → Moves im extent s t old new
@@ -50,7 +50,7 @@ module _ (im : List ℕ) (extent : ℕ) where
   -- ---- a component
 
   module _
-      (s : Position) {w : Tally} {old new : List ℕ} (d : s .done ≡ false) (i : passwordAt im (s .line) ≤ length im)
+      (s : Position) {w : Tally} {old new : List ℕ} (d : s .done ≡ false) (i : passwordAt im (s .line .0) ≤ length im)
       (a : Aligned im 0 (s .tally .at) (evenFrom (s .tally .at))) (q : Passes im extent (evenFrom (s .tally .at)) (s .tally) w old new) where
     pub part-onward : s .tally .at < w .at
     part-onward = parts.onward im a q
@@ -58,7 +58,7 @@ module _ (im : List ℕ) (extent : ℕ) where
     -- the line is done where it was the last
     pub part-moves :
         (b : Bool) → (b ≡ false → lastBit im (evenFrom (s .tally .at)) ≡ 0) → (b ≡ true → lastBit im (evenFrom (s .tally .at)) ≡ 1) →
-        Moves im extent s (spot w (s .n) (s .line) b) old new
+        Moves im extent s (spot w (s .n) (s .line .0) b) old new
     part-moves b more last = record {
       inside = i;
       counted = omega arith;
@@ -131,12 +131,12 @@ module _ (im : List ℕ) (extent : ℕ) where
   -- a line that is done, with its submenu: the lines after it, or the table
   module _
       {below first : ℕ} {u w : Tally} {old mid new : List ℕ} {s : Position} (d : s .done ≡ true) (o : Along im extent below first u old s mid)
-      (l : Leaves im extent below (s .line) (s .tally) w mid new) where
-    read : headAt im (s .line) .refusal ≡ 0
+      (l : Leaves im extent below (s .line .0) (s .tally) w mid new) where
+    read : headAt im (s .line .0) .refusal ≡ 0
     read = tables.reads im extent (o .few) (o .head) (o .through d)
 
-    pub lines-more : isLast im (s .line) ≡ 0 → AmongLines im extent below first u old (s .n + 1) (s .line) (nextLine im (s .line)) w new
+    pub lines-more : isLast im (s .line .0) ≡ 0 → AmongLines im extent below first u old (s .n + 1) (s .line .0) (nextLine im (s .line .0)) w new
     lines-more z = tables.going-more im extent below first (o .few) read (l .leave (o .few) (o .head) (o .through d)) (o .lines) z
 
-    pub lines-last : isLast im (s .line) ≡ 1 → Reaches extent (tables.lines im extent below first 0 0 (linesFrom im (mostLinesOfTable + 1) first)) u w old new
+    pub lines-last : isLast im (s .line .0) ≡ 1 → Reaches extent (tables.lines im extent below first 0 0 (linesFrom im (mostLinesOfTable + 1) first)) u w old new
     lines-last z = tables.going-last im extent below first (o .few) read (l .leave (o .few) (o .head) (o .through d)) (o .lines) z

@@ -96,7 +96,7 @@ headed w end = record { sure = true; at = end; lines = w .lines + 1; fields = w 
 pub record PartsLeft (im : List ℕ) (extent first : ℕ) (s : State) (v : Tally) (m : List ℕ) : Type 0 where
   pub here : State
   pub fuel : ℕ
-  pub stands : AsFar v m here
+  pub far : AsFar v m here
   pub rest : onComponents im extent mostFields (componentsFrom im (length im + 1) first) s
       ≡ onComponents im extent mostFields (componentsFrom im fuel (evenFrom (v .at))) here
   pub enough : length im < v .at + fuel
@@ -111,7 +111,7 @@ pub record AmongParts (im : List ℕ) (extent : ℕ) (u v : Tally) (old new : Li
 pub record LinesLeft (im : List ℕ) (extent below first : ℕ) (s : State) (n before p : ℕ) (v : Tally)
     (m : List ℕ) : Type 0 where
   pub here : State
-  pub stands : AsFar v m here
+  pub far : AsFar v m here
   pub rest :
       onLines im extent mostFields (onTable im extent mostFields below) 0 0
       (linesFrom im (mostLinesOfTable + 1) first) s
@@ -133,8 +133,8 @@ pub record Along (im : List ℕ) (extent below first : ℕ) (u : Tally) (old : L
   pub from : Tally
   pub marks : List ℕ
   pub few : s .n < mostLinesOfTable
-  pub lines : AmongLines im extent below first u old (s .n) before (s .line) from marks
-  pub head : Placed im (s .n) before (s .line) from end
+  pub lines : AmongLines im extent below first u old (s .n) before (s .line .0) from marks
+  pub head : Placed im (s .n) before (s .line .0) from end
   pub within : s .done ≡ false → AmongParts im extent (headed from end) (s .tally) marks new
   pub through : s .done ≡ true → Reaches extent
       (onComponents im extent mostFields (componentsFrom im (length im + 1) (evenFrom end))) (headed from end)
@@ -144,13 +144,13 @@ pub record Along (im : List ℕ) (extent below first : ℕ) (u : Tally) (old : L
 -- image, and there is a mark for each byte of the sheet
 pub record Within (im : List ℕ) (extent : ℕ) (s : Position) (marks : List ℕ) : Type 0 where
   pub going : s .done ≡ false
-  pub head : passwordAt im (s .line) ≤ length im
+  pub head : passwordAt im (s .line .0) ≤ length im
   pub inside : s .tally .at ≤ length im
   pub marked : extent ≤ 64 * length marks
 
 -- from one position to another, in whatever table they are
 pub record Moves (im : List ℕ) (extent : ℕ) (s r : Position) (old new : List ℕ) : Type 0 where
-  pub inside : passwordAt im (r .line) ≤ length im
+  pub inside : passwordAt im (r .line .0) ≤ length im
   pub counted : s .n ≤ r .n
   pub onward : s .tally .at ≤ r .tally .at
   pub fits : r .tally .at ≤ length im
@@ -163,8 +163,8 @@ pub record Next (im : List ℕ) (n line : ℕ) (w : Tally) (s : Position) : Type
   pub plain : hasSubmenu im line ≡ 0
   pub counted : s .n ≡ n + 1
   pub few : s .n < mostLinesOfTable
-  pub there : s .line ≡ nextLine im line
-  pub head : Placed im (s .n) line (s .line) w (s .tally .at)
+  pub there : s .line .0 ≡ nextLine im line
+  pub head : Placed im (s .n) line (s .line .0) w (s .tally .at)
   pub tally : s .tally ≡ headed w (s .tally .at)
 
 -- with the submenu of a line, if it has one, the whole line is done

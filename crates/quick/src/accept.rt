@@ -25,10 +25,11 @@ use walk::check::prolog_code;
 fn doubtful(s: Position) -> Position
     ensures { λ r. ⌜ r .tally .sure ≡ false ⌝ }
 {
+    let line = s.line;
     Position {
         tally: Tally::doubt(),
         n: s.n,
-        line: s.line,
+        line,
         done: true,
     }
 }
@@ -47,10 +48,11 @@ fn take_other(image: &[u8], extent: usize, s: Position, marks: &mut [u64]) -> Po
         return doubtful(s);
     }
     let w = accept_component(image, extent, p, s.tally, &mut *marks);
+    let line = s.line;
     Position {
         tally: w,
         n: s.n,
-        line: s.line,
+        line,
         done: image[p] / 128 % 2 == 1,
     }
 }
@@ -136,7 +138,7 @@ fn accept_table(
     let mut v = w.titled(title.end);
     let mut n = 0;
     let mut before = 0;
-    let mut p = title.line;
+    let mut p = title.line.0;
     while n < Image::MAX_TABLE_LINES {
         let end = accept_head(image, n, before, p, v);
         if end == 0 {
@@ -147,7 +149,7 @@ fn accept_table(
         if !s.tally.sure {
             return s.tally;
         }
-        let line = s.line;
+        let line = s.line.0;
         v = accept_submenu(image, extent, below, line, s.tally, &mut *marks);
         if !v.sure {
             return v;

@@ -17,6 +17,7 @@ use crate::position::Position;
 use crate::tally::Tally;
 use crate::texts::option_end;
 use cmf::image::Image;
+use field::kind::ImagePlace;
 
 // The option at p with its byte in the sheet; in doubt no byte is marked.
 fn take_option(image: &[u8], extent: usize, p: usize, w: Tally, marks: &mut [u64]) -> Tally
@@ -79,12 +80,12 @@ fn is_padded_to_even(image: &[u8], at: usize) -> bool
 fn next_plain(image: &[u8], n: usize, line: usize, w: Tally) -> Position
     requires { ⌜ passwordAt (now image) line ≤ length (now image) ⌝ }
     ensures { λ r. ⌜ (r .done ≡ false → Next (now (image .entry)) n line w r)
-        × (r .done ≡ true → r ≡ record { tally = w; n = n; line = line; done = true }) ⌝ }
+        × (r .done ≡ true → r ≡ record { tally = w; n = n; line = record { 0 = line }; done = true }) ⌝ }
 {
     let past = Position {
         tally: w,
         n,
-        line,
+        line: ImagePlace(line),
         done: true,
     };
     if Image::MAX_TABLE_LINES - 1 <= n {
@@ -112,7 +113,7 @@ fn next_plain(image: &[u8], n: usize, line: usize, w: Tally) -> Position
             fields: w.fields,
         },
         n: n + 1,
-        line: next,
+        line: ImagePlace(next),
         done: false,
     }
 }
@@ -137,7 +138,7 @@ pub(crate) fn run(image: &[u8], extent: usize, start: Position, marks: &mut [u64
             return s;
         }
         if tag / 128 % 2 == 1 {
-            s = next_plain(image, s.n, s.line, w);
+            s = next_plain(image, s.n, s.line.0, w);
             if s.done {
                 return s;
             }

@@ -46,25 +46,25 @@ module _ (im ds : List ℕ) (at : ℕ) where
 -- ---- entries
 
 module _ (im : List ℕ) (s : Session) (h : Head) where
-  pub last-right : (ds : List ℕ) (n : ℕ) (t : Bool) (next : Session) (r : Stepped) → t ≡ rightTo im (h .password + 1) ds n → t ≡ true → next ≡ entryOver s ds
-      → r ≡ descended next (h .table) → r ≡ lastDigit im s h ds n
+  pub last-right : (ds : List ℕ) (n : ℕ) (t : Bool) (next : Session) (r : Stepped) → t ≡ rightTo im (h .password .0 + 1) ds n → t ≡ true → next ≡ entryOver s ds
+      → r ≡ descended next (h .table .0) → r ≡ lastDigit im s h ds n
   unfolding lastDigit
   last-right ds n t next r e b f g = g ∙ rw f (sym (if-true _ _ (sym e ∙ b)))
 
-  pub last-wrong : (ds : List ℕ) (n : ℕ) (t : Bool) (next : Session) (r : Stepped) → t ≡ rightTo im (h .password + 1) ds n → t ≡ false → next ≡ entryOver s ds
+  pub last-wrong : (ds : List ℕ) (n : ℕ) (t : Bool) (next : Session) (r : Stepped) → t ≡ rightTo im (h .password .0 + 1) ds n → t ≡ false → next ≡ entryOver s ds
       → r ≡ flash next → r ≡ lastDigit im s h ds n
   unfolding lastDigit
   last-wrong ds n t next r e b f g = g ∙ rw f (sym (if-false _ _ (sym e ∙ b)))
 
-module _ (im : List ℕ) (s : Session) (h : Head) (e : h ≡ cursorHead im (s .here)) (n d b : ℕ) (ds : List ℕ) (k : b ≡ byteAt im (h .password))
+module _ (im : List ℕ) (s : Session) (h : Head) (e : h ≡ cursorHead im (s .here)) (n d b : ℕ) (ds : List ℕ) (k : b ≡ byteAt im (h .password .0))
     (q : ds ≡ set (s .typed) n d) (r : Stepped) where
   pub digit-more : n + 1 < b → r ≡ taken (inEntry s (n + 1) ds) → r ≡ digitStep im s (cursorHead im (s .here)) n d
   unfolding digitStep
-  digit-more l f = f ∙ rw (← e, q) (sym (if-lt (n + 1) (byteAt im (h .password)) _ _ (omega (arith, k))))
+  digit-more l f = f ∙ rw (← e, q) (sym (if-lt (n + 1) (byteAt im (h .password .0)) _ _ (omega (arith, k))))
 
   pub digit-last : b ≤ n + 1 → r ≡ lastDigit im s h ds (n + 1) → r ≡ digitStep im s (cursorHead im (s .here)) n d
   unfolding digitStep
-  digit-last l f = f ∙ rw (← e, q) (sym (if-ge (n + 1) (byteAt im (h .password)) _ _ (omega (arith, k))))
+  digit-last l f = f ∙ rw (← e, q) (sym (if-ge (n + 1) (byteAt im (h .password .0)) _ _ (omega (arith, k))))
 
 -- ---- seconds
 

@@ -9,7 +9,7 @@ use Rattle.field.specs.Sheet.{begun}
 use Rattle.field.specs.declared.kind.ImagePlace.{ImagePlace}
 use Rattle.field.specs.declared.work.Work.{Work}
 use Rattle.cmf.specs.Readers.{componentAt}
-use Rattle.cmf.specs.Places.{componentsOf, lineCount, lineFromHere, firstEditable}
+use Rattle.cmf.specs.Places.{componentsOf, lineCount, restOfLine, firstEditable}
 use Rattle.cmf.specs.declared.component.Component.{Component}
 use Rattle.cmf.specs.declared.head.Head.{Head}
 use Rattle.cmf.specs.declared.place.Found.{Found}
@@ -36,7 +36,7 @@ module _ (im : List ℕ) (s : Session) where
     unfolding rightStep
     right-asks a b f = f ∙ sym (rw (← e) (if-true _ _ a ∙ if-true _ _ b))
 
-    pub right-opens : h .submenu ≡ true → h .protected ≡ false → r ≡ descended s (h .table) → r ≡ rightStep im s
+    pub right-opens : h .submenu ≡ true → h .protected ≡ false → r ≡ descended s (h .table .0) → r ≡ rightStep im s
     unfolding rightStep
     right-opens a b f = f ∙ sym (rw (← e) (if-true _ _ a ∙ if-false _ _ b))
 
@@ -52,6 +52,6 @@ visit-is im sheet s r p c w e f g = g ∙ rw (f, e)
 
 -- by what is found on the cursor line
 pub enter-is : (im sheet : List ℕ) (s : Session) (h : Head) (f : Found) (r : Stepped) → h ≡ cursorHead im (s .here)
-    → f ≡ firstEditable im (lineFromHere im (h .component)) → r ≡ enterAt im sheet s f → r ≡ enterStep im sheet s
+    → f ≡ firstEditable im (restOfLine im (h .component .0)) → r ≡ enterAt im sheet s f → r ≡ enterStep im sheet s
 unfolding enterStep componentsOf cursorHead
 enter-is im sheet s h f r e g k = k ∙ rw (g, e)

@@ -2,20 +2,19 @@
 use Prim.Native.Nat.{ℕ, zero, suc, _+_, _-_, _≤_, _<_}
 use mathlib.Core.Path.{_≡_, refl, sym, ap, _∙_}
 use mathlib.Core.Bool.{Bool, true, false}
-use mathlib.Core.List.{List, [], _∷_}
+use mathlib.Core.List.{List, _∷_}
 use native.Mathlib.Omega.{arith}
 use lib.ListN.{length, getD, take, drop, length-take, drop-of-length-le}
 use lib.Seq.{drop-cons, getD-take}
 use borrow.Author.Tests.{le-leb, lt-leb, lt-ltb, le-ltb, eq-eqb, ne-eqb}
 use native.Mathlib.Decide.{ℕ-discrete}
-use Rattle.laws.specs.Choice.{if_then_else_, _and_, _≤?_, _<?_}
-use Rattle.laws.proofs.Cases.{if-eq, if-ne, and-true, and-false, and-i, and-second}
-use Rattle.cmf.specs.Readers.{headAt, componentAt}
-use Rattle.cmf.specs.Places.{componentsFrom, lineCount, foundIf, lineFound}
-use Rattle.cmf.specs.declared.component.Component.{Component}
+use Rattle.laws.specs.Choice.{_and_, _≤?_, _<?_}
+use Rattle.laws.proofs.Cases.{and-true, and-false, and-i, and-second}
+use Rattle.cmf.specs.Readers.{headAt}
+use Rattle.cmf.specs.Places.{lineCount, foundIf, lineFound}
 use Rattle.cmf.specs.declared.head.Head.{Head}
 use Rattle.session.specs.Session.{noLevel}
-use Rattle.session.specs.Fits.{shapeFits, levelFits, levelsFit, tablesFit, cursorLine, cursorHead, isIn, digitsTo, modeFits, sessionFits}
+use Rattle.session.specs.Fits.{shapeFits, levelFits, levelsFit, tablesFit, cursorLine, cursorHead, digitsTo, modeFits, sessionFits}
 use Rattle.session.specs.declared.session.Level.{Level}
 use Rattle.session.specs.declared.session.Session.{Session}
 
@@ -77,7 +76,7 @@ module _ (im : List ℕ) (lines t : ℕ) (ls : List Level) (i n : ℕ) (here : L
   level-plain k h l b e s = rw (next h l) (and-true _ b ∙ and-false _ (ap (λ (j : Head). j .submenu) (sym e) ∙ s))
 
   pub level-next : (k : Head) → i < n → n ≤ length ls → levelFits im lines t (getD ls i noLevel) ≡ true → k ≡ cursorHead im (getD ls i noLevel)
-      → k .submenu ≡ true → levelsFit im lines (k .table) (drop (i + 1) (take n ls)) here ≡ rest
+      → k .submenu ≡ true → levelsFit im lines (k .table .0) (drop (i + 1) (take n ls)) here ≡ rest
   unfolding levelsFit
   level-next k h l b e s =
       let z : i + 1 ≡ suc i = omega arith in
@@ -86,34 +85,6 @@ module _ (im : List ℕ) (lines t : ℕ) (ls : List Level) (i n : ℕ) (here : L
   pub level-last : n ≤ i → rest ≡ levelFits im lines t here
   unfolding levelsFit
   level-last h = rw (drop-of-length-le (take n ls) {i = i} (omega (arith, length-take n ls)))
-
--- ---- components of a line
-
-module _ (im : List ℕ) (p : ℕ) where
-  pub among-here : (left c : ℕ) → 0 < left → c ≡ p → isIn p (componentsFrom im left c) ≡ true
-  unfolding isIn componentsFrom
-  among-here zero c h e = absurd (omega arith)
-  among-here (suc n) c h e = if-eq c p _ _ e
-
-  among-one : (left c : ℕ) (k : Component) → 0 < left → (c ≡ p → ⊥) → k ≡ componentAt im c
-      → isIn p (componentsFrom im left c) ≡ isIn p (if k .last then [] else componentsFrom im (left - 1) (k .next))
-  unfolding isIn componentsFrom
-  among-one zero c k h n e = absurd (omega arith)
-  among-one (suc m) c k h n e = let z : suc m - 1 ≡ m = omega arith in if-ne c p _ _ n ∙ rw (z, e)
-
-  pub among-last : (left c : ℕ) (k : Component) → 0 < left → (c ≡ p → ⊥) → k ≡ componentAt im c → k .last ≡ true
-      → isIn p (componentsFrom im left c) ≡ false
-  unfolding isIn if_then_else_
-  among-last left c k h n e l = among-one left c k h n e ∙ rw l
-
-  pub among-next : (left c : ℕ) (k : Component) → 0 < left → (c ≡ p → ⊥) → k ≡ componentAt im c → k .last ≡ false
-      → isIn p (componentsFrom im (left - 1) (k .next)) ≡ isIn p (componentsFrom im left c)
-  unfolding if_then_else_
-  among-next left c k h n e l = sym (among-one left c k h n e ∙ rw l)
-
-  pub among-done : (left c : ℕ) → left ≤ 0 → isIn p (componentsFrom im left c) ≡ false
-  unfolding isIn componentsFrom
-  among-done left c h = let z : left ≡ 0 = omega arith in rw z
 
 -- ---- digits typed
 

@@ -47,7 +47,7 @@ isRefused (answer.Finished p) = false
 isRefused (answer.Fired p) = false
 isRefused (answer.Refused n) = true
 
--- 01's terms: the key was heeded; it could not be
+-- 01's terms: taken, the event did what it is for; flash, it can't be done
 abbrev pub taken : Session → Stepped
 taken s = record { session = s; answer = answer.Taken }
 

@@ -57,7 +57,7 @@ unfoldable pub rightStep : List ℕ → Session → Stepped
 rightStep im s =
     if cursorHead im (s .here) .submenu then
     (if cursorHead im (s .here) .protected then taken (inEntry s 0 (s .typed))
-    else descended s (cursorHead im (s .here) .table))
+    else descended s (cursorHead im (s .here) .table .0))
     else flash s
 
 -- ---- visits

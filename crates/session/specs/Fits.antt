@@ -12,7 +12,7 @@ use Rattle.field.specs.declared.kind.Kind.{Kind}
 use Rattle.field.specs.declared.work.Work.{Work}
 use Rattle.cmf.specs.Limits.{prologBytes, deepestTable}
 use Rattle.cmf.specs.Readers.{headAt, componentAt}
-use Rattle.cmf.specs.Places.{componentsOf, lineAt, lineCount}
+use Rattle.cmf.specs.Places.{componentsOf, lineAt, lineCount, isIn}
 use Rattle.cmf.specs.declared.head.Head.{Head}
 use Rattle.session.specs.Events.{lastDigitKey}
 use Rattle.session.specs.declared.session.Level.{Level}
@@ -58,17 +58,12 @@ unfoldable pub levelsFit : List ℕ → ℕ → ℕ → List Level → Level →
 levelsFit im lines t [] here = levelFits im lines t here
 levelsFit im lines t (l ∷ ls) here =
     levelFits im lines t l and (cursorHead im l .submenu
-    and levelsFit im lines (cursorHead im l .table) ls here)
+    and levelsFit im lines (cursorHead im l .table .0) ls here)
 
 -- 1 to 8 tables that begin with the top table
 unfoldable pub tablesFit : List ℕ → Session → Bool
 tablesFit im s = (s .outer <? deepestTable)
     and levelsFit im (s .lines) prologBytes (take (s .outer) (s .above)) (s .here)
-
--- a place is one of a list
-unfoldable pub isIn : ℕ → List ℕ → Bool
-isIn p [] = false
-isIn p (q ∷ qs) = if q =? p then true else isIn p qs
 
 -- the working copy of a visit has a chosen cell or part of the field, and legal cells; a trigger has no
 -- value, so nothing is asked of its cells
@@ -88,11 +83,11 @@ unfoldable pub digitsTo : List ℕ → ℕ → Bool
 digitsTo ds zero = true
 digitsTo ds (suc n) = digitsTo ds n and (getD ds n 0 ≤? lastDigitKey)
 
--- a password entry is for a protected submenu of the cursor line and keeps the digits typed, fewer than it
--- has
+-- an entry is open only where the cursor line's submenu is protected; fewer keys are typed than its password
+-- has digits, and each is a digit
 unfoldable pub entryFits : List ℕ → ℕ → List ℕ → ℕ → Bool
 entryFits im line typed n =
-    headAt im line .protected and ((n <? byteAt im (headAt im line .password)) and digitsTo typed n)
+    headAt im line .protected and ((n <? byteAt im (headAt im line .password .0)) and digitsTo typed n)
 
 -- browsing asks nothing more; a visit and a password entry ask their own clause
 unfoldable pub modeFits : List ℕ → Session → Mode → Bool

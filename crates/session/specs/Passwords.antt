@@ -28,13 +28,13 @@ entryOver s ds = inMode s mode.Browsing (s .work) ds
 -- all digits are typed: the submenu opens if they are right, else the entry ends with a flash
 unfoldable pub lastDigit : List ℕ → Session → Head → List ℕ → ℕ → Stepped
 lastDigit im s h ds n =
-    if rightTo im (h .password + 1) ds n then descended (entryOver s ds) (h .table)
+    if rightTo im (h .password .0 + 1) ds n then descended (entryOver s ds) (h .table .0)
     else flash (entryOver s ds)
 
 -- a digit after n others
 unfoldable pub digitStep : List ℕ → Session → Head → ℕ → ℕ → Stepped
 digitStep im s h n d =
-    if n + 1 <? byteAt im (h .password) then taken (inEntry s (n + 1) (set (s .typed) n d))
+    if n + 1 <? byteAt im (h .password .0) then taken (inEntry s (n + 1) (set (s .typed) n d))
     else lastDigit im s h (set (s .typed) n d) (n + 1)
 
 -- R24: LEFT gives up and is taken; a second counts; any other key flashes

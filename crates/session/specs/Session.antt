@@ -16,8 +16,8 @@ abbrev pub noLevel : Level
 noLevel = level 0 0 0
 
 -- the working copy while there is no visit; fits does not look at it
-abbrev pub blank : Work
-blank = record { cells = replicate mostCells 0; at = 0 }
+abbrev pub noWork : Work
+noWork = record { cells = replicate mostCells 0; at = 0 }
 
 -- 01, The four calls: top table at line 1 (cursor 0 here), browsing, idle count 0
 unfoldable pub opened : ℕ → ℕ → Session
@@ -29,7 +29,7 @@ opened columns lines = record {
   here = level prologBytes 0 0;
   idle = 0;
   mode = mode.Browsing;
-  work = blank;
+  work = noWork;
   typed = 0 ∷ 0 ∷ 0 ∷ 0 ∷ 0 ∷ 0 ∷ 0 ∷ 0 ∷ [];
 }
 

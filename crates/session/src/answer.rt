@@ -8,8 +8,8 @@ use cmf::image::Image;
 use field::kind::ImagePlace;
 use field::work::Work;
 
-// The paper's answers. Taken: the event was heeded. Flash: it could not be. Finished: a visit of the field at
-// a place was finished. Fired: the trigger at a place was fired. Refused: with the refusal number.
+// The paper's answers. Taken: the event did what it is for. Flash: it can't be done. Finished: a visit of the
+// field at a place was finished. Fired: the trigger at a place was fired. Refused: with the refusal number.
 pub enum Answer {
     Taken,
     Flash,

@@ -113,7 +113,7 @@ impl Session {
                 let typed = self.typed;
                 return self.in_mode(Mode::Password(0), work, typed).taken();
             }
-            return self.descend(h.table);
+            return self.descend(h.table.0);
         }
         self.flash()
     }
@@ -133,7 +133,7 @@ impl Session {
         ensures { λ r. ⌜ r ≡ enterStep (now (image .entry)) (now (sheet .entry)) self ⌝ }
     {
         let h = self.here.cursor_head(image);
-        let f = first_editable(image, h.component);
+        let f = first_editable(image, h.component.0);
         match f {
             Found::At(p) => self.visit_at(image, sheet, p).taken(),
             Found::Nothing => self.flash(),

@@ -4,9 +4,9 @@ ghost use Prim.Native.Nat.{_-_};
 ghost use lib.ListN.{getD, take};
 ghost use Rattle.laws.specs.Choice.{_and_, _<?_};
 ghost use Rattle.cmf.specs.Limits.{prologBytes, deepestTable};
-ghost use Rattle.cmf.specs.Places.{componentsOf, foundIf};
+ghost use Rattle.cmf.specs.Places.{foundIf};
 ghost use Rattle.session.specs.Session.{noLevel};
-ghost use Rattle.session.specs.Fits.{shapeFits, cursorLine, cursorHead, levelFits, levelsFit, isIn};
+ghost use Rattle.session.specs.Fits.{shapeFits, cursorLine, cursorHead, levelFits, levelsFit};
 ghost use Rattle.session.specs.Fits.{workFits, visitFits, digitsTo, entryFits, sessionFits};
 use crate::session::Level;
 use crate::session::Mode;
@@ -16,6 +16,7 @@ use cmf::head::Head;
 use cmf::head::read_head;
 use cmf::image::Image;
 use cmf::place::Found;
+use cmf::place::is_on_line;
 use cmf::place::line_at;
 use cmf::place::reach;
 use field::kind::ImagePlace;
@@ -87,27 +88,6 @@ impl Level {
     }
 }
 
-// Whether a place is that of a component of a line.
-fn is_on_line(image: &[u8], line: usize, place: usize) -> bool
-    ensures { λ r. ⌜ r ≡ isIn place (componentsOf (now (image .entry)) line) ⌝ }
-{
-    let h = read_head(image, line);
-    let mut c = h.component;
-    let mut left = image.len() + 1;
-    while 0 < left {
-        if c == place {
-            return true;
-        }
-        let k = read_component(image, c);
-        if k.last {
-            return false;
-        }
-        c = k.next;
-        left = left - 1;
-    }
-    false
-}
-
 // Whether a working copy has a chosen cell of its kind, and legal cells; nothing is asked of a trigger's.
 fn work_fits(kind: Kind, work: Work) -> bool
     ensures { λ r. ⌜ r ≡ workFits kind work ⌝ }
@@ -167,7 +147,7 @@ fn shown_line(
         if !h.submenu {
             return Found::Nothing;
         }
-        t = h.table;
+        t = h.table.0;
         i = i + 1;
     }
     here.shown(image, lines, t)
@@ -216,7 +196,7 @@ fn entry_fits(image: &[u8], line: usize, n: u8, typed: [u8; Image::MAX_PASSWORD]
     if !h.protected {
         return false;
     }
-    if n < byte_at(image, h.password) {
+    if n < byte_at(image, h.password.0) {
         return digits_to(typed, n);
     }
     false

@@ -55,11 +55,11 @@ impl Session {
         requires { ⌜ count ≤ 256 ⌝ }
         ensures { λ r. ⌜ r ≡ lastDigit (now (image .entry)) self h typed count ⌝ }
     {
-        let right = is_right(image, h.password, typed, count);
+        let right = is_right(image, h.password.0, typed, count);
         let work = self.work;
         let next = self.in_mode(Mode::Browsing, work, typed);
         if right {
-            return next.descend(h.table);
+            return next.descend(h.table.0);
         }
         next.flash()
     }
@@ -73,7 +73,7 @@ impl Session {
         let old = self.typed;
         let typed = with_digit(old, count, d);
         let n = count as usize + 1;
-        if n < byte_at(image, h.password) as usize {
+        if n < byte_at(image, h.password.0) as usize {
             let work = self.work;
             return self.in_mode(Mode::Password(count + 1), work, typed).taken();
         }

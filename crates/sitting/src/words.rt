@@ -48,7 +48,7 @@ fn say_meaning(number: u8) {
         11 => say(b"two fields share a byte of the sheet"),
         12 => say(b"the session does not belong to this image"),
         13 => say(b"there is no such event"),
-        14 => say(b"no option field stands there, or it has no such item"),
+        14 => say(b"no option field is there, or it has no such item"),
         _ => say(b"no meaning"),
     }
 }

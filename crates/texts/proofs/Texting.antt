@@ -27,7 +27,7 @@ use Rattle.cmf.proofs.Shortcuts.{one-byte}
 use Rattle.laws.specs.Digits.{digit0}
 use Rattle.texts.specs.Row.{Put}
 use Rattle.texts.specs.Texts.{blank, dash, colon, digitChar, signChar, digitCells, numeralText, decimal, countText, alignedRight, paddedRight, timeText, triggerText, cellsText, widthOf, hash, sheetNumber, fieldText}
-use Rattle.texts.proofs.Writing.{behind, same, over-ahead}
+use Rattle.texts.proofs.Writing.{put-then, same, over-ahead}
 
 -- the next digit cell
 pub digits-cell : (cs : List ℕ) (i left d b : ℕ) → 0 < left → d ≡ getD cs i 0 → b ≡ digitChar d → digitCells cs i left ≡ b ∷ digitCells cs (i + 1) (left - 1)
@@ -68,7 +68,7 @@ numeral-plain n cs h e = same (sym (if-eq (n .signs) 0 _ _ h)) e
 pub numeral-signed : {x y z : List ℕ} {at m r : ℕ} (n : Numeral) (cs : List ℕ) (d b : ℕ) → (n .signs ≡ 0 → ⊥) → d ≡ getD cs 0 0 → b ≡ signChar d
     → Put x at (b ∷ []) y m → Put y m (digitCells cs 1 (n .digits)) z r → Put x at (numeralText n cs) z r
 unfolding numeralText
-numeral-signed n cs d b h e f g k = same (sym (if-ne (n .signs) 0 _ _ h)) (behind (rw (f, e) at g) k)
+numeral-signed n cs d b h e f g k = same (sym (if-ne (n .signs) 0 _ _ h)) (put-then (rw (f, e) at g) k)
 
 -- ---- counters
 
@@ -78,7 +78,7 @@ unfolding countText
 count-below w v n k h e f a b d =
     let t : countText v ≡ dash ∷ decimal n (32768 - v) = if-lt v 32768 _ _ h ∙ rw e in
     let l : w - length (dash ∷ decimal n (32768 - v)) ≡ k = omega (arith, length-decimal n (32768 - v)) in
-    rw (t, l) (behind a (behind b d))
+    rw (t, l) (put-then a (put-then b d))
 
 pub count-above : {x y z : List ℕ} {at m r : ℕ} (w v n k : ℕ) → 32768 ≤ v → n ≡ digitCount (v - 32768) → k ≡ w - n → Put x at (replicate k blank) y m
     → Put y m (decimal n (v - 32768)) z r → Put x at (alignedRight w (countText v)) z r
@@ -86,7 +86,7 @@ unfolding countText
 count-above w v n k h e f a d =
     let t : countText v ≡ decimal n (v - 32768) = if-ge v 32768 _ _ h ∙ rw e in
     let l : w - length (decimal n (v - 32768)) ≡ k = omega (arith, length-decimal n (v - 32768)) in
-    rw (t, l) (behind a d)
+    rw (t, l) (put-then a d)
 
 -- ---- times and dates
 
@@ -109,7 +109,7 @@ time-short cs long h e = rw (h, append-nil) e
 
 pub item-padded : {x y z s t : List ℕ} {at m r : ℕ} (w k : ℕ) → s ≡ t → k ≡ w - length s → Put x at s y m → Put y m (replicate k blank) z r
     → Put x at (paddedRight w t) z r
-item-padded w k e f a b = behind (rw e at a) (rw (f, e) at b)
+item-padded w k e f a b = put-then (rw e at a) (rw (f, e) at b)
 
 -- ---- fields and components
 

@@ -16,8 +16,8 @@ use Rattle.texts.specs.Row.{Put}
 -- ---- one after the other
 
 -- two texts
-pub behind : {d e f s t : List ℕ} {at m r : ℕ} → Put d at s e m → Put e m t f r → Put d at (s ++ t) f r
-behind {d = d} {e = e} {s = s} {t = t} {at = at} a b =
+pub put-then : {d e f s t : List ℕ} {at m r : ℕ} → Put d at s e m → Put e m t f r → Put d at (s ++ t) f r
+put-then {d = d} {e = e} {s = s} {t = t} {at = at} a b =
     let l : length e ≡ length d = ap length (a .is) ∙ length-over d at s in
     record {
       is = b .is ∙ rw (a .is, a .ends) (over-over d at s t);

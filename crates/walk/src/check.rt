@@ -204,7 +204,7 @@ fn check_components(
         if component.last {
             return v;
         }
-        c = component.next;
+        c = component.next.0;
         left = left - 1;
     }
     v
@@ -232,12 +232,12 @@ fn check_line(
     if v.refusal != 0 {
         return v;
     }
-    let q = check_components(image, extent, h.component, v, &mut *index);
+    let q = check_components(image, extent, h.component.0, v, &mut *index);
     if q.refusal != 0 {
         return q;
     }
     if h.submenu {
-        let t = check_table(image, extent, below, h.table, q, &mut *index);
+        let t = check_table(image, extent, below, h.table.0, q, &mut *index);
         return t.past_line(q.at);
     }
     q
@@ -268,7 +268,7 @@ fn check_table(
     let below = left - 1;
     let mut n = 0;
     let mut before = 0;
-    let mut p = t.line;
+    let mut p = t.line.0;
     while n < Image::MAX_TABLE_LINES + 1 {
         v = check_line(image, extent, below, n, before, p, v, &mut *index);
         if v.refusal != 0 {
@@ -279,7 +279,7 @@ fn check_table(
             return v;
         }
         before = p;
-        p = h.next;
+        p = h.next.0;
         n = n + 1;
     }
     v

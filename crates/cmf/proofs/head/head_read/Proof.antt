@@ -57,11 +57,11 @@ cast-d c = search needs
 add-t21 : tie.Need-add-t21
 add-t21 c = search needs
 
-add-t22 : tie.Need-add-t22
-add-t22 c = search needs
+add-t23 : tie.Need-add-t23
+add-t23 c = search needs
 
-add-t24 : tie.Need-add-t24
-add-t24 c = search needs
+add-t27 : tie.Need-add-t27
+add-t27 c = search needs
 
 returns : tie.Need-returns
 returns c = let p = c .before .before .before .before .before .before .before .before .args .p in let tag = c .before .before .before .before .before .before .before .before .args .tag in let a : p + c .before .before .before .back-offset .result ≡ backPlace p tag = omega (arith, c .before .before .before .back-offset .ensures) in let b : p + c .before .submenu-offset .result ≡ submenuPlace p tag = omega (arith, c .before .submenu-offset .ensures) in let d : p + c .before .before .before .before .before .before .options-length .result ≡ optionsEnd p tag = omega (arith, c .before .before .before .before .before .before .options-length .ensures) in simp (div-one, c .before .before .before .before .before .is-typeable .ensures, c .before .before .before .before .word-at .ensures, c .before .before .word-at2 .ensures, c .word-at3 .ensures, a, b, d)
@@ -86,6 +86,6 @@ head-read-spec =
     word-at-requires-3
     cast-d
     add-t21
-    add-t22
-    add-t24
+    add-t23
+    add-t27
     returns)

@@ -43,11 +43,11 @@ add-word-in-3 c = search needs
 word-in-requires-3 : tie.Need-word-in-requires-3
 word-in-requires-3 c κs = search needs
 
-add-t23 : tie.Need-add-t23
-add-t23 c = search needs
+add-t24 : tie.Need-add-t24
+add-t24 c = search needs
 
-add-t25 : tie.Need-add-t25
-add-t25 c = search needs
+add-t28 : tie.Need-add-t28
+add-t28 c = search needs
 
 returns : tie.Need-returns
 unfolding if_then_else_
@@ -68,6 +68,6 @@ short-head-spec =
     submenu-offset-requires
     add-word-in-3
     word-in-requires-3
-    add-t23
-    add-t25
+    add-t24
+    add-t28
     returns)

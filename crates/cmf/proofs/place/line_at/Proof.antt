@@ -29,7 +29,7 @@ loop-less : tie.Need-loop-less Inv-loop μ-loop
 loop-less c = omega arith
 
 loop-again : tie.Need-loop-again Inv-loop μ-loop
-loop-again c = line-turn (c .before .before .before .before .before .args .image .now) (c .before .before .loop .left) (c .before .before .loop .p) (c .step-at .result .next) (c .before .loop-test .taken) (c .step-at .ensures .1) ∙ c .before .before .loop .inv
+loop-again c = line-turn (c .before .before .before .before .before .args .image .now) (c .before .before .loop .left) (c .before .before .loop .p) (c .step-at .result .next .0) (c .before .loop-test .taken) (c .step-at .ensures .1) ∙ c .before .before .loop .inv
 
 returns : tie.Need-returns Inv-loop μ-loop
 unfolding lineFrom lineAt

@@ -38,7 +38,7 @@ loop-less : tie.Need-loop-less Inv-loop μ-loop
 loop-less c = omega arith
 
 loop-again : tie.Need-loop-again Inv-loop μ-loop
-loop-again c = sym (count-next (c .before .before .before .before .before .before .args .image .now) (c .before .before .before .loop .n) (c .before .before .before .loop .p) (c .before .step-at .result .next) (c .before .before .loop-test .taken) (sym (c .if1 .left) ∙ c .before .step-at .ensures .0) (c .before .step-at .ensures .1)) ∙ c .before .before .before .loop .inv
+loop-again c = sym (count-next (c .before .before .before .before .before .before .args .image .now) (c .before .before .before .loop .n) (c .before .before .before .loop .p) (c .before .step-at .result .next .0) (c .before .before .loop-test .taken) (sym (c .if1 .left) ∙ c .before .step-at .ensures .0) (c .before .step-at .ensures .1)) ∙ c .before .before .before .loop .inv
 
 returns-2 : tie.Need-returns-2 Inv-loop μ-loop
 unfolding lineCount linesOf

@@ -19,22 +19,22 @@ read-requires : tie.Need-read-requires
 read-requires c κs = room-le _ _ _ (via (c .before .before .before .room .ensures) (c .before .before .if1 .taken))
 
 returns : tie.Need-returns
-returns c = let e = head-short (c .before .before .before .before .before .before .args .image .now) (c .before .before .before .before .before .before .args .p) (room-le _ _ _ (via (c .before .before .before .before .room .ensures) (c .before .before .before .if1 .taken))) (c .before .if2 .taken) in (c .read .ensures .0 ∙ sym (ap (λ (h : Head). h .last) e), c .read .ensures .1 ∙ sym (ap (λ (h : Head). h .next) e))
+returns c = let e = head-short (c .before .before .before .before .before .before .args .image .now) (c .before .before .before .before .before .before .args .p) (room-le _ _ _ (via (c .before .before .before .before .room .ensures) (c .before .before .before .if1 .taken))) (c .before .if2 .taken) in (c .read .ensures .0 ∙ sym (ap (λ (h : Head). h .last) e), c .read .ensures .1 ∙ sym (ap (λ (h : Head). h .next .0) e))
 
-has-password-requires : tie.Need-has-password-requires
-has-password-requires c κs = room-le _ _ _ (via (c .before .before .before .room .ensures) (c .before .before .if1 .taken))
+is-protected-requires : tie.Need-is-protected-requires
+is-protected-requires c κs = room-le _ _ _ (via (c .before .before .before .room .ensures) (c .before .before .if1 .taken))
 
 read-requires-2 : tie.Need-read-requires-2
 read-requires-2 c κs = room-le _ _ _ (via (c .before .before .before .before .before .room .ensures) (c .before .before .before .before .if1 .taken))
 
 returns-2 : tie.Need-returns-2
-returns-2 c = let w = c .before .before .has-password .ensures (c .before .if3 .taken) in let e = head-protected (c .before .before .before .before .before .before .before .before .args .image .now) (c .before .before .before .before .before .before .before .before .args .p) (room-le _ _ _ (via (c .before .before .before .before .before .before .room .ensures) (c .before .before .before .before .before .if1 .taken))) (w .0) (w .1) (w .2) in (c .read2 .ensures .0 ∙ sym (ap (λ (h : Head). h .last) e), c .read2 .ensures .1 ∙ sym (ap (λ (h : Head). h .next) e))
+returns-2 c = let w = c .before .before .is-protected .ensures (c .before .if3 .taken) in let e = head-protected (c .before .before .before .before .before .before .before .before .args .image .now) (c .before .before .before .before .before .before .before .before .args .p) (room-le _ _ _ (via (c .before .before .before .before .before .before .room .ensures) (c .before .before .before .before .before .if1 .taken))) (w .0) (w .1) (w .2) in (c .read2 .ensures .0 ∙ sym (ap (λ (h : Head). h .last) e), c .read2 .ensures .1 ∙ sym (ap (λ (h : Head). h .next .0) e))
 
 any-head-requires : tie.Need-any-head-requires
 any-head-requires c κs = search needs
 
 returns-3 : tie.Need-returns-3
-returns-3 c = (ap (λ (h : Head). h .last) (c .any-head .ensures), ap (λ (h : Head). h .next) (c .any-head .ensures))
+returns-3 c = (ap (λ (h : Head). h .last) (c .before .any-head .ensures), ap (λ (h : Head). h .next .0) (c .before .any-head .ensures))
 
 pub step-at-spec : {M : Type 1} → statement M
 step-at-spec =
@@ -44,7 +44,7 @@ step-at-spec =
     shared-slice-read-tag
     read-requires
     returns
-    has-password-requires
+    is-protected-requires
     read-requires-2
     returns-2
     any-head-requires

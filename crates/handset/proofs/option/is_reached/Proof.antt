@@ -3,21 +3,21 @@ use native.Mathlib.Omega.{arith}
 use Prim.Native.Nat.{_-_, _≤_}
 use mathlib.Core.Path.{_≡_, refl, sym}
 use mathlib.Core.Bool.{false}
-use Rattle.handset.specs.OptionText.{reached}
-use Rattle.acceptance.specs.Index.{listed}
+use Rattle.cmf.specs.Places.{isIn}
+use Rattle.acceptance.specs.Index.{listed, placesIn}
 use Rattle.handset.proofs.Finding.{found, still-none}
 use borrow.Author.Needs.{needs}
 use Rattle.handset.proofs.option.is_reached.Statement.{statement}
 use Rattle.handset.proofs.option.is_reached.Tie as tie
 
 abbrev Inv-loop : tie.InvT-loop
-Inv-loop index k place i₀ i = (reached place (listed index i) ≡ false) × (i ≤ k)
+Inv-loop index k place i₀ i = (isIn place (placesIn index i) ≡ false) × (i ≤ k)
 
 abbrev μ-loop : tie.MeasureT-loop
 μ-loop index k place i₀ i = k - i
 
 loop-holds : tie.Need-loop-holds Inv-loop μ-loop
-unfolding reached listed
+unfolding isIn listed
 loop-holds c = (refl, omega arith)
 
 entry-at-requires : tie.Need-entry-at-requires Inv-loop μ-loop

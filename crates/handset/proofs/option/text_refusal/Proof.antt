@@ -23,7 +23,7 @@ is-reached-requires c κs = search needs
 
 returns-2 : tie.Need-returns-2
 unfolding _before_ _unless_ if_then_else_ _and_
-returns-2 c = rw (refusal-is (c .before .before .before .before .before .before .before .args .image .now) (c .before .before .before .before .before .before .before .args .extent) (c .before .before .before .before .before .before .before .args .place) (c .before .before .before .before .before .before .before .args .item) _ (index-read _ _ _ _ (c .before .before .before .before .before .check .ensures .0) (c .before .before .before .before .before .check .ensures .1) (c .before .before .before .if1 .left))) (simp (eq-eqb _ _ (c .before .before .before .if1 .left), via (c .before .is-reached .ensures) (not-true _ (c .if2 .taken))))
+returns-2 c = rw (refusal-is (c .before .before .before .before .before .before .before .args .image .now) (c .before .before .before .before .before .before .before .args .extent) (c .before .before .before .before .before .before .before .args .place) (c .before .before .before .before .before .before .before .args .item) _ (index-read _ _ _ _ (c .before .before .before .before .before .check .ensures .0) (c .before .before .before .before .before .check .ensures .1) (c .before .before .before .if1 .left)) (c .before .before .before .if1 .left)) (simp (eq-eqb _ _ (c .before .before .before .if1 .left), via (c .before .is-reached .ensures) (not-true _ (c .if2 .taken))))
 
 read-component-requires : tie.Need-read-component-requires
 read-component-requires c κs = search needs
@@ -33,11 +33,11 @@ items-in-requires c κs = search needs
 
 returns-3 : tie.Need-returns-3
 unfolding _before_ _unless_ if_then_else_ _and_
-returns-3 c = rw (refusal-is (c .before .before .before .before .before .before .before .before .before .before .before .args .image .now) (c .before .before .before .before .before .before .before .before .before .before .before .args .extent) (c .before .before .before .before .before .before .before .before .before .before .before .args .place) (c .before .before .before .before .before .before .before .before .before .before .before .args .item) _ (index-read _ _ _ _ (c .before .before .before .before .before .before .before .before .before .check .ensures .0) (c .before .before .before .before .before .before .before .before .before .check .ensures .1) (c .before .before .before .before .before .before .before .if1 .left))) (simp (eq-eqb _ _ (c .before .before .before .before .before .before .before .if1 .left), via (c .before .before .before .before .before .is-reached .ensures) (not-false _ (c .before .before .before .before .if2 .left)), ← c .before .before .before .read-component .ensures, ← c .before .items-in .ensures, lt-ltb _ _ (c .if3 .taken)))
+returns-3 c = rw (refusal-is (c .before .before .before .before .before .before .before .before .before .before .before .args .image .now) (c .before .before .before .before .before .before .before .before .before .before .before .args .extent) (c .before .before .before .before .before .before .before .before .before .before .before .args .place) (c .before .before .before .before .before .before .before .before .before .before .before .args .item) _ (index-read _ _ _ _ (c .before .before .before .before .before .before .before .before .before .check .ensures .0) (c .before .before .before .before .before .before .before .before .before .check .ensures .1) (c .before .before .before .before .before .before .before .if1 .left)) (c .before .before .before .before .before .before .before .if1 .left)) (simp (eq-eqb _ _ (c .before .before .before .before .before .before .before .if1 .left), via (c .before .before .before .before .before .is-reached .ensures) (not-false _ (c .before .before .before .before .if2 .left)), ← c .before .before .before .read-component .ensures, ← c .before .items-in .ensures, lt-ltb _ _ (c .if3 .taken)))
 
 returns-4 : tie.Need-returns-4
 unfolding _before_ _unless_ if_then_else_ _and_
-returns-4 c = rw (refusal-is (c .before .before .before .before .before .before .before .before .before .before .before .args .image .now) (c .before .before .before .before .before .before .before .before .before .before .before .args .extent) (c .before .before .before .before .before .before .before .before .before .before .before .args .place) (c .before .before .before .before .before .before .before .before .before .before .before .args .item) _ (index-read _ _ _ _ (c .before .before .before .before .before .before .before .before .before .check .ensures .0) (c .before .before .before .before .before .before .before .before .before .check .ensures .1) (c .before .before .before .before .before .before .before .if1 .left))) (simp (eq-eqb _ _ (c .before .before .before .before .before .before .before .if1 .left), via (c .before .before .before .before .before .is-reached .ensures) (not-false _ (c .before .before .before .before .if2 .left)), ← c .before .before .before .read-component .ensures, ← c .before .items-in .ensures, le-ltb _ _ (c .if3 .left)))
+returns-4 c = rw (refusal-is (c .before .before .before .before .before .before .before .before .before .before .before .args .image .now) (c .before .before .before .before .before .before .before .before .before .before .before .args .extent) (c .before .before .before .before .before .before .before .before .before .before .before .args .place) (c .before .before .before .before .before .before .before .before .before .before .before .args .item) _ (index-read _ _ _ _ (c .before .before .before .before .before .before .before .before .before .check .ensures .0) (c .before .before .before .before .before .before .before .before .before .check .ensures .1) (c .before .before .before .before .before .before .before .if1 .left)) (c .before .before .before .before .before .before .before .if1 .left)) (simp (eq-eqb _ _ (c .before .before .before .before .before .before .before .if1 .left), via (c .before .before .before .before .before .is-reached .ensures) (not-false _ (c .before .before .before .before .if2 .left)), ← c .before .before .before .read-component .ensures, ← c .before .items-in .ensures, le-ltb _ _ (c .if3 .left)))
 
 pub text-refusal-spec : {M : Type 1} → statement M
 text-refusal-spec =

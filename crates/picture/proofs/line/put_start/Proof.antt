@@ -2,7 +2,7 @@
 use borrow.Author.Needs.{needs}
 use mathlib.Core.Path.{_∙_}
 use Rattle.texts.specs.Texts.{blank}
-use Rattle.texts.proofs.Writing.{behind, padded}
+use Rattle.texts.proofs.Writing.{put-then, padded}
 use Rattle.picture.proofs.line.put_start.Statement.{statement}
 use Rattle.picture.proofs.line.put_start.Tie as tie
 
@@ -22,7 +22,7 @@ same-length : tie.Need-same-length
 same-length c = search needs
 
 returns : tie.Need-returns
-returns c = (c .before .before .before .before .before .before .put-data .ensures .1, padded blank (behind (c .before .before .before .before .before .before .before .before .before .before .put .ensures) (c .before .before .before .before .before .before .put-data .ensures .0)) (c .before .before .pad .ensures) ∙ rw (c .before .before .before .before .before .before .before .before .before .before .before .cursor-mark .ensures))
+returns c = (c .before .before .before .before .before .before .put-data .ensures .1, padded blank (put-then (c .before .before .before .before .before .before .before .before .before .before .put .ensures) (c .before .before .before .before .before .before .put-data .ensures .0)) (c .before .before .pad .ensures) ∙ rw (c .before .before .before .before .before .before .before .before .before .before .before .cursor-mark .ensures))
 
 pub put-start-spec : {M : Type 1} → statement M
 put-start-spec =

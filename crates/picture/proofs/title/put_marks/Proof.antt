@@ -1,7 +1,7 @@
 -- One cell after the other.
 use borrow.Author.Needs.{needs}
 use Rattle.picture.specs.Rows.{lineNumber}
-use Rattle.texts.proofs.Writing.{behind}
+use Rattle.texts.proofs.Writing.{put-then}
 use Rattle.picture.proofs.title.put_marks.Statement.{statement}
 use Rattle.picture.proofs.title.put_marks.Tie as tie
 
@@ -34,7 +34,7 @@ same-length c = search needs
 
 returns : tie.Need-returns
 unfolding lineNumber
-returns c = behind (c .before .before .before .before .before .before .before .before .before .before .before .before .before .before .before .put .ensures) (behind (rw (c .before .before .before .before .before .before .before .before .before .before .before .tens .ensures) at (c .before .before .before .before .before .before .before .before .before .before .put2 .ensures)) (behind (c .before .before .before .before .before .before .put3 .ensures) (c .before .before .put4 .ensures))) .is
+returns c = put-then (c .before .before .before .before .before .before .before .before .before .before .before .before .before .before .before .put .ensures) (put-then (rw (c .before .before .before .before .before .before .before .before .before .before .before .tens .ensures) at (c .before .before .before .before .before .before .before .before .before .before .put2 .ensures)) (put-then (c .before .before .before .before .before .before .put3 .ensures) (c .before .before .put4 .ensures))) .is
 
 pub put-marks-spec : {M : Type 1} → statement M
 put-marks-spec =

@@ -37,11 +37,11 @@ plain-end-requires c κs = (omega (arith, c .before .before .before .before .bef
 returns-5 : tie.Need-returns-5
 returns-5 c = (λ e. clash refl e, λ _. refl)
 
-add-t8 : tie.Need-add-t8
-add-t8 c = search needs
+add-t9 : tie.Need-add-t9
+add-t9 c = search needs
 
-add-t16 : tie.Need-add-t16
-add-t16 c = search needs
+add-t17 : tie.Need-add-t17
+add-t17 c = search needs
 
 returns-6 : tie.Need-returns-6
 returns-6 c = (λ _. let h = c .before .before .plain-end .ensures (omega arith) in record { more = omega (arith, c .before .before .before .before .before .before .if3 .left); plain = omega (arith, c .before .before .before .before .if4 .left); counted = refl; few = omega arith; there = c .before .before .before .next-of .ensures .0; head = record { room = omega arith; inside = h .0; aligned = h .1 .0; head = h .1 .1 (c .before .before .before .before .before .before .before .before .before .before .before .before .args .n + 1) (omega arith) }; tally = refl }, λ e. clash e refl)
@@ -60,6 +60,6 @@ next-plain-spec =
     next-of-requires
     plain-end-requires
     returns-5
-    add-t8
-    add-t16
+    add-t9
+    add-t17
     returns-6)

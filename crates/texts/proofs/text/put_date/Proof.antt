@@ -2,7 +2,7 @@
 use borrow.Author.Needs.{needs}
 use mathlib.Core.Path.{refl}
 use Rattle.texts.specs.Texts.{dateText}
-use Rattle.texts.proofs.Writing.{behind}
+use Rattle.texts.proofs.Writing.{put-then}
 use Rattle.texts.proofs.Texting.{decimal-as}
 use Rattle.texts.proofs.text.put_date.Statement.{statement}
 use Rattle.texts.proofs.text.put_date.Tie as tie
@@ -39,7 +39,7 @@ same-length c = search needs
 
 returns : tie.Need-returns
 unfolding dateText
-returns c = behind (decimal-as (c .before .before .before .before .before .before .before .before .before .before .before .before .before .before .before .before .before .before .before .before .before .before .year-cells .ensures) (c .before .before .before .before .before .before .before .before .before .before .before .before .before .before .before .before .before .before .before .before .before .cell-at .ensures) (c .before .before .before .before .before .before .before .before .before .before .before .before .before .before .before .before .before .before .before .before .put-decimal .ensures)) (behind (c .before .before .before .before .before .before .before .before .before .before .before .before .before .before .before .before .put .ensures) (behind (decimal-as refl (c .before .before .before .before .before .before .before .before .before .before .before .before .cell-at2 .ensures) (c .before .before .before .before .before .before .before .before .before .before .before .put-decimal2 .ensures)) (behind (c .before .before .before .before .before .before .before .put2 .ensures) (decimal-as refl (c .before .before .before .cell-at3 .ensures) (c .before .before .put-decimal3 .ensures)))))
+returns c = put-then (decimal-as (c .before .before .before .before .before .before .before .before .before .before .before .before .before .before .before .before .before .before .before .before .before .before .year-cells .ensures) (c .before .before .before .before .before .before .before .before .before .before .before .before .before .before .before .before .before .before .before .before .before .cell-at .ensures) (c .before .before .before .before .before .before .before .before .before .before .before .before .before .before .before .before .before .before .before .before .put-decimal .ensures)) (put-then (c .before .before .before .before .before .before .before .before .before .before .before .before .before .before .before .before .put .ensures) (put-then (decimal-as refl (c .before .before .before .before .before .before .before .before .before .before .before .before .cell-at2 .ensures) (c .before .before .before .before .before .before .before .before .before .before .before .put-decimal2 .ensures)) (put-then (c .before .before .before .before .before .before .before .put2 .ensures) (decimal-as refl (c .before .before .before .cell-at3 .ensures) (c .before .before .put-decimal3 .ensures)))))
 
 pub put-date-spec : {M : Type 1} → statement M
 put-date-spec =

@@ -1,6 +1,6 @@
 -- One cell after the other.
 use borrow.Author.Needs.{needs}
-use Rattle.texts.proofs.Writing.{behind}
+use Rattle.texts.proofs.Writing.{put-then}
 use Rattle.texts.proofs.text.put_trigger.Statement.{statement}
 use Rattle.texts.proofs.text.put_trigger.Tie as tie
 
@@ -17,7 +17,7 @@ same-length : tie.Need-same-length
 same-length c = search needs
 
 returns : tie.Need-returns
-returns c = behind (c .before .before .before .before .before .before .before .before .before .before .put .ensures) (behind (c .before .before .before .before .before .before .put2 .ensures) (c .before .before .put3 .ensures))
+returns c = put-then (c .before .before .before .before .before .before .before .before .before .before .put .ensures) (put-then (c .before .before .before .before .before .before .put2 .ensures) (c .before .before .put3 .ensures))
 
 pub put-trigger-spec : {M : Type 1} → statement M
 put-trigger-spec =

@@ -1,8 +1,8 @@
 -- The top table's are all.
 use Rattle.cmf.specs.Places.{componentPlaces, fieldsOf}
 use borrow.Author.Needs.{needs}
-use Rattle.handset.proofs.fill.write_defaults.Statement.{statement}
-use Rattle.handset.proofs.fill.write_defaults.Tie as tie
+use Rattle.handset.proofs.defaults.write_defaults.Statement.{statement}
+use Rattle.handset.proofs.defaults.write_defaults.Tie as tie
 
 write-table-requires : tie.Need-write-table-requires
 write-table-requires c κs = search needs

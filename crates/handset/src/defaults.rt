@@ -1,6 +1,6 @@
 // The defaults of an image's fields, in one walk over its tables, lines and components.
 ghost use mathlib.Core.Path.{_≡_};
-ghost use Rattle.cmf.specs.Places.{lineFromHere, heldBy, tableReach, fieldsAmong, fieldsOf};
+ghost use Rattle.cmf.specs.Places.{restOfLine, heldBy, tableReach, fieldsAmong, fieldsOf};
 ghost use Rattle.handset.specs.Open.{defaultsWritten};
 use cmf::component::Component;
 use cmf::component::read_component;
@@ -22,7 +22,7 @@ fn write_component(c: Component, sheet: &mut [u8])
 fn write_components(image: &[u8], p: usize, sheet: &mut [u8])
     ensures { λ _. ⌜ now (sheet .exit)
         ≡ defaultsWritten
-        (fieldsAmong (now (image .entry)) (lineFromHere (now (image .entry)) p)) (now (sheet .entry)) ⌝ }
+        (fieldsAmong (now (image .entry)) (restOfLine (now (image .entry)) p)) (now (sheet .entry)) ⌝ }
 {
     let mut c = p;
     let mut left = image.len() + 1;
@@ -32,7 +32,7 @@ fn write_components(image: &[u8], p: usize, sheet: &mut [u8])
         if component.last {
             return;
         }
-        c = component.next;
+        c = component.next.0;
         left = left - 1;
     }
 }
@@ -48,18 +48,18 @@ fn write_table(image: &[u8], left: usize, at: usize, sheet: &mut [u8])
     }
     let below = left - 1;
     let title = read_title(image, at);
-    let mut p = title.line;
+    let mut p = title.line.0;
     let mut n = 0;
     while n < Image::MAX_TABLE_LINES + 1 {
         let h = read_head(image, p);
-        write_components(image, h.component, &mut *sheet);
+        write_components(image, h.component.0, &mut *sheet);
         if h.submenu {
-            write_table(image, below, h.table, &mut *sheet);
+            write_table(image, below, h.table.0, &mut *sheet);
         }
         if h.last {
             return;
         }
-        p = h.next;
+        p = h.next.0;
         n = n + 1;
     }
 }

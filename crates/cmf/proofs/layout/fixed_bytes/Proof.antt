@@ -5,8 +5,8 @@ use native.Mathlib.Omega.{arith}
 use Rattle.laws.proofs.Cases.{choices}
 use Rattle.laws.specs.Choice.{if_then_else_}
 use Rattle.cmf.specs.Readers.{fixedBytes}
-use Rattle.cmf.proofs.component.fixed_bytes.Statement.{statement}
-use Rattle.cmf.proofs.component.fixed_bytes.Tie as tie
+use Rattle.cmf.proofs.layout.fixed_bytes.Statement.{statement}
+use Rattle.cmf.proofs.layout.fixed_bytes.Tie as tie
 
 returns : tie.Need-returns
 unfolding fixedBytes

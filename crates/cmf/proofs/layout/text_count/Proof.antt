@@ -5,8 +5,8 @@ use Rattle.laws.proofs.Cases.{choices}
 use native.Mathlib.Omega.{arith}
 use Rattle.cmf.specs.Readers.{textCount}
 use borrow.Author.Needs.{needs}
-use Rattle.cmf.proofs.component.text_count.Statement.{statement}
-use Rattle.cmf.proofs.component.text_count.Tie as tie
+use Rattle.cmf.proofs.layout.text_count.Statement.{statement}
+use Rattle.cmf.proofs.layout.text_count.Tie as tie
 
 returns : tie.Need-returns
 unfolding textCount

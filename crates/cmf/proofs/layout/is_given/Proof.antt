@@ -5,8 +5,8 @@ use Rattle.laws.specs.Choice.{if_then_else_}
 use borrow.Author.Tests.{le-ltb, lt-leb, ne-eqb}
 use Rattle.cmf.specs.Readers.{given}
 use borrow.Author.Needs.{needs}
-use Rattle.cmf.proofs.component.is_given.Statement.{statement}
-use Rattle.cmf.proofs.component.is_given.Tie as tie
+use Rattle.cmf.proofs.layout.is_given.Statement.{statement}
+use Rattle.cmf.proofs.layout.is_given.Tie as tie
 
 returns : tie.Need-returns
 unfolding given

@@ -10,14 +10,14 @@ use Rattle.handset.proofs.Filling.{writtenAt, rest, lines-last, lines-n
 use borrow.Author.Needs.{needs}
 use borrow.Fn.Kinds.{In}
 use borrow.Fn.PlainCycle.{Measures, is, falls, and}
-use Rattle.handset.proofs.fill.write_table.Reads as write-table
-use Rattle.handset.proofs.fill.write_table.Kinds as write-table-kinds
-use Rattle.handset.proofs.fill.+write_table.Lts-write_table as write-table-lts
+use Rattle.handset.proofs.defaults.write_table.Reads as write-table
+use Rattle.handset.proofs.defaults.write_table.Kinds as write-table-kinds
+use Rattle.handset.proofs.defaults.+write_table.Lts-write_table as write-table-lts
 use Rattle.cmf.proofs.head.read_head.Reads as read-head-reads
 use Rattle.cmf.proofs.title.read_title.Reads as read-title-reads
-use Rattle.handset.proofs.fill.write_components.Reads as write-components-reads
-use Rattle.handset.proofs.fill.+write_table.{statement}
-use Rattle.handset.proofs.fill.+write_table.Tie.{close}
+use Rattle.handset.proofs.defaults.write_components.Reads as write-components-reads
+use Rattle.handset.proofs.defaults.+write_table.{statement}
+use Rattle.handset.proofs.defaults.+write_table.Tie.{close}
 
 abbrev μ-write-table : Measures 2 write-table-kinds.ps ℕ
 μ-write-table κs a = a .1 .0

@@ -5,8 +5,8 @@ use Rattle.cmf.specs.Readers.{optionsEnd}
 use mathlib.Core.Bool.{false≢true}
 use native.Mathlib.Omega.{arith}
 use borrow.Author.Needs.{needs}
-use Rattle.cmf.proofs.place.has_password.Statement.{statement}
-use Rattle.cmf.proofs.place.has_password.Tie as tie
+use Rattle.cmf.proofs.place.is_protected.Statement.{statement}
+use Rattle.cmf.proofs.place.is_protected.Tie as tie
 
 returns : tie.Need-returns
 returns c = λ e. absurd (false≢true e)
@@ -26,8 +26,8 @@ read-texts-requires c κs = search needs
 returns-3 : tie.Need-returns-3
 returns-3 c = λ e. let d : c .before .before .before .before .before .args .p + c .before .options-length .result ≡ optionsEnd (c .before .before .before .before .before .args .p) (c .before .before .before .before .before .args .tag) = omega (arith, c .before .options-length .ensures) in (c .before .before .before .if1 .left, omega arith, rw d at (rw (c .read-texts .ensures) at e))
 
-pub has-password-spec : {M : Type 1} → statement M
-has-password-spec =
+pub is-protected-spec : {M : Type 1} → statement M
+is-protected-spec =
     tie.close
     (tie.spec
     returns

@@ -3,8 +3,8 @@ use Rattle.laws.specs.Choice.{if_then_else_, _and_}
 use borrow.Author.Tests.{eq-eqb, ne-eqb}
 use Rattle.cmf.specs.Readers.{given}
 use borrow.Author.Needs.{needs}
-use Rattle.cmf.proofs.component.option_given.Statement.{statement}
-use Rattle.cmf.proofs.component.option_given.Tie as tie
+use Rattle.cmf.proofs.layout.option_given.Statement.{statement}
+use Rattle.cmf.proofs.layout.option_given.Tie as tie
 
 add-byte-at : tie.Need-add-byte-at
 add-byte-at c = search needs

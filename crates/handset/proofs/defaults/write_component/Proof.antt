@@ -1,8 +1,8 @@
 -- By whether it is a field.
 use Rattle.handset.proofs.Filling.{held-written, none-written}
 use borrow.Author.Needs.{needs}
-use Rattle.handset.proofs.fill.write_component.Statement.{statement}
-use Rattle.handset.proofs.fill.write_component.Tie as tie
+use Rattle.handset.proofs.defaults.write_component.Statement.{statement}
+use Rattle.handset.proofs.defaults.write_component.Tie as tie
 
 write-default-requires : tie.Need-write-default-requires
 write-default-requires c κs = search needs

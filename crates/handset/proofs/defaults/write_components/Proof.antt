@@ -6,8 +6,8 @@ use lib.ListN.{length}
 use Rattle.cmf.specs.Places.{componentsFrom}
 use Rattle.handset.proofs.Filling.{writtenAt, components-last, components-next, components-done}
 use borrow.Author.Needs.{needs}
-use Rattle.handset.proofs.fill.write_components.Statement.{statement}
-use Rattle.handset.proofs.fill.write_components.Tie as tie
+use Rattle.handset.proofs.defaults.write_components.Statement.{statement}
+use Rattle.handset.proofs.defaults.write_components.Tie as tie
 
 abbrev Inv-loop : tie.InvT-loop
 Inv-loop image p sheet₀ c₀ left₀ sheet c left = (writtenAt image (componentsFrom image left c) sheet ≡ writtenAt image (componentsFrom image (length image + 1) p) sheet₀) × (length sheet ≡ length sheet₀)

@@ -19,7 +19,7 @@ use Rattle.field.proofs.Apart.{LieApart, default-beside, default-read}
 use Rattle.cmf.specs.Grammar.{WellFormed}
 use Rattle.cmf.specs.Places.{lineCount, fieldsOf}
 use Rattle.acceptance.proofs.Acceptance.{fields-are}
-use Rattle.acceptance.proofs.Fields.{every-in, all-standing, others-apart, field-inside}
+use Rattle.acceptance.proofs.Fields.{every-in, all-in-image, others-apart, field-inside}
 use Rattle.acceptance.proofs.Reach.{some-line}
 use Rattle.session.specs.Session.{opened}
 use Rattle.session.specs.Fits.{shapeFits, levelFits, levelsFit, tablesFit, modeFits, sessionFits}
@@ -34,7 +34,7 @@ module _ (im : List ℕ) where
 
   module _ (n : ℕ) (w : WellFormed im n) where
     sized : (f : Field) → List·Memᴰ f (w .fields) → length (bytesOf (f .default)) ≡ sizeOf f
-    sized f m = every-in (all-standing im n w) f m .sized
+    sized f m = every-in (all-in-image im n w) f m .sized
 
     -- a default that was written stays when another field's is written
     stays : (f g : Field) (s : List ℕ) → List·Memᴰ f (w .fields) → List·Memᴰ g (w .fields) → length s ≡ n
