@@ -10,7 +10,7 @@ use Rattle.laws.specs.Bytes.{byteAt, wordAt}
 use Rattle.laws.proofs.Cases.{if-ind, by-test, and-i, and-l, and-r}
 use Rattle.cmf.specs.Limits.{mostLinesOfTable, mostLines}
 use Rattle.cmf.specs.Grammar.{isFirst, hasPassword, previousAt, passwordAt, Digits}
-use Rattle.cmf.specs.Readers.{oddFrom, evenFrom, headRead, titleAt}
+use Rattle.cmf.specs.Readers.{oddFrom, evenFrom, firstAt, headRead, titleAt}
 use Rattle.cmf.specs.Forms.{Cut, HeadCut, HeadWrong}
 use Rattle.cmf.specs.declared.title.Title.{Title}
 use Rattle.cmf.specs.declared.head.Head.{Head}
@@ -130,13 +130,13 @@ module _ (im : List ℕ) (lines n before at p : ℕ) where
     h = headRead im p (byteAt im p) end
 
     -- marks that agree
-    agree-right : agrees n before p h ≡ true → (n ≡ 0 → isFirst im p ≡ 0 → ⊥) × ((0 < n → isFirst im p ≡ 1 → ⊥) × (0 < n → isFirst im p ≡ 0 → before + wordAt im (previousAt im p) ≡ p))
+    agree-right : agrees im n before p ≡ true → (n ≡ 0 → isFirst im p ≡ 0 → ⊥) × ((0 < n → isFirst im p ≡ 1 → ⊥) × (0 < n → isFirst im p ≡ 0 → before + wordAt im (previousAt im p) ≡ p))
     unfolding agrees
     agree-right =
         if-ind Q (n =? 0)
         (λ z f. let e = eqb-true n 0 z in let o = eqb-true (isFirst im p) 1 f in ((λ _ g. omega arith), ((λ l. absurd (omega arith)), (λ l. absurd (omega arith)))))
         (λ z. let e = eqb-false n 0 z in
-        if-ind Q (h .first) (λ _ f. clash refl (sym f))
+        if-ind Q (firstAt im p) (λ _ f. clash refl (sym f))
         (λ o f. let m = eqb-false (isFirst im p) 1 o in ((λ y. absurd (e y)), ((λ _ g. m g), (λ _ _. eqb-true _ p f)))))
       where
         Q : Bool → Type 0
@@ -145,20 +145,20 @@ module _ (im : List ℕ) (lines n before at p : ℕ) where
             (n ≡ 0 → isFirst im p ≡ 0 → ⊥) × ((0 < n → isFirst im p ≡ 1 → ⊥) × (0 < n → isFirst im p ≡ 0 → before + wordAt im (previousAt im p) ≡ p))
 
     -- and marks that do not
-    agree-wrong : agrees n before p h ≡ false → F 7
+    agree-wrong : agrees im n before p ≡ false → F 7
     unfolding agrees
     agree-wrong =
         if-ind Q (n =? 0)
         (λ z f. HeadFault.unmarked (eqb-true n 0 z) (omega (arith, eqb-false (isFirst im p) 1 f)))
         (λ z. let l : 0 < n = omega (arith, eqb-false n 0 z) in
-        if-ind Q (h .first) (λ o _. HeadFault.marked l (eqb-true (isFirst im p) 1 o))
+        if-ind Q (firstAt im p) (λ o _. HeadFault.marked l (eqb-true (isFirst im p) 1 o))
         (λ o f. HeadFault.previous l (omega (arith, eqb-false (isFirst im p) 1 o)) (eqb-false (before + wordAt im (previousAt im p)) p f)))
       where
         Q : Bool → Type 0
         Q b = b ≡ false → F 7
 
     -- the line's place
-    place-right : (HeadWrong im p → ⊥) → p =? oddFrom at ≡ true → padded im at p ≡ true → agrees n before p h ≡ true → Right
+    place-right : (HeadWrong im p → ⊥) → p =? oddFrom at ≡ true → padded im at p ≡ true → agrees im n before p ≡ true → Right
     place-right r o z g =
         let m = agree-right g in
         record {
@@ -170,7 +170,7 @@ module _ (im : List ℕ) (lines n before at p : ℕ) where
           previous = m .1 .1;
         }
 
-    right-by : (HeadWrong im p → ⊥) → (es : List Entry) → linePlaced im n before p h (cameTo at lines es .progress) ≡ true → Right
+    right-by : (HeadWrong im p → ⊥) → (es : List Entry) → linePlaced im n before p (cameTo at lines es .progress) ≡ true → Right
     unfolding linePlaced
     right-by r es e = place-right r (and-l _ _ e) (and-l _ _ (and-r _ _ e)) (and-r _ _ (and-r _ _ e))
 
@@ -200,12 +200,12 @@ module _ (im : List ℕ) (lines n before at p : ℕ) where
         eight = head-least 8 (λ _. u) (λ _. r) (λ l. absurd (omega arith)) (λ l. absurd (omega arith))
 
     -- row 7, by place, padding and marks
-    located : (HeadCut im p → ⊥) → (HeadWrong im p → ⊥) → (es : List Entry) → linePlaced im n before p h (cameTo at lines es .progress) ≡ false → F 7
+    located : (HeadCut im p → ⊥) → (HeadWrong im p → ⊥) → (es : List Entry) → linePlaced im n before p (cameTo at lines es .progress) ≡ false → F 7
     unfolding linePlaced
     located u r es e =
         by-test (p =? oddFrom at)
         (λ o. by-test (padded im at p)
-        (λ z. by-test (agrees n before p h) (λ g. clash (and-i o (and-i z g)) e) agree-wrong)
+        (λ z. by-test (agrees im n before p) (λ g. clash (and-i o (and-i z g)) e) agree-wrong)
         (not-padded (eqb-true p (oddFrom at) o)))
         (λ o. HeadFault.misplaced (λ x. eqb-false p (oddFrom at) o (is-odd x)))
 
@@ -223,7 +223,7 @@ module _ (im : List ℕ) (lines n before at p : ℕ) where
       (λ _. at-fault 7 refl (omega arith) (HeadFault.wrong x) (head-seven u))
   head-by es (HeadView.whole u r end) =
       if-ind (λ (w : Progress). Judged F (w .refusal)) (0 =? 0)
-      (λ _. if-ind (λ (w : Progress). Judged F (w .refusal)) (linePlaced im n before p (h end) (cameTo at lines es .progress))
+      (λ _. if-ind (λ (w : Progress). Judged F (w .refusal)) (linePlaced im n before p (cameTo at lines es .progress))
       (λ e. counted end u (right-by end r es e) es)
       (λ e. at-fault 7 refl (omega arith) (located end u r es e) (head-seven u)))
       (λ q. absurd (eqb-false 0 0 q refl))

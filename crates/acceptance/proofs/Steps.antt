@@ -11,7 +11,7 @@ use Rattle.laws.specs.Bytes.{byteAt}
 use Rattle.laws.proofs.Cases.{if-ind, by-test, and-i, and-l, and-r, if-eq, if-ne, if-gt, if-true, if-false}
 use Rattle.field.specs.declared.record.Field.{Field}
 use Rattle.cmf.specs.Limits.{mostLinesOfTable, mostLines}
-use Rattle.cmf.specs.Readers.{oddFrom, titleAt, headAt, componentAt}
+use Rattle.cmf.specs.Readers.{oddFrom, titleAt, firstAt, headAt, componentAt}
 use Rattle.cmf.specs.Layouts.{Aligned, Component}
 use Rattle.cmf.specs.Grammar.{Head}
 use Rattle.cmf.specs.Places.{heldBy}
@@ -58,7 +58,7 @@ module _ (im : List ℕ) (A : Agree im) (extent most : ℕ) where
     pub room : lines < mostLines
 
   -- R8: the marks of a head of the grammar agree with its place
-  agrees-is : (n before p end : ℕ) → Head im n before p end → agrees n before p (headAt im p) ≡ true
+  agrees-is : (n before p end : ℕ) → Head im n before p end → agrees im n before p ≡ true
   unfolding agrees
   agrees-is n before p end h =
       let i = A .head-is h in
@@ -86,17 +86,17 @@ module _ (im : List ℕ) (A : Agree im) (extent most : ℕ) where
     abbrev P : Progress → Type 0
     P w = fine (with s w) ≡ true → Headed n before p at lines
 
-    agrees-read : headAt im p .typeable ≡ true → HeadReads im p → agrees n before p (headAt im p) ≡ true → Head im n before p (headAt im p .end)
+    agrees-read : headAt im p .typeable ≡ true → HeadReads im p → agrees im n before p ≡ true → Head im n before p (headAt im p .end)
     unfolding agrees
     agrees-read g r =
         if-ind (λ (b : Bool). b ≡ true → Head im n before p (headAt im p .end)) (n =? 0)
         (λ e f. let z = eqb-true n 0 e in r .head g n before (λ _. f) (λ l. absurd (omega arith)) (λ l. omega arith))
         (λ e. let z = eqb-false n 0 e in
-        if-ind (λ (b : Bool). b ≡ true → Head im n before p (headAt im p .end)) (headAt im p .first)
+        if-ind (λ (b : Bool). b ≡ true → Head im n before p (headAt im p .end)) (firstAt im p)
         (λ _ f. absurd (false≢true f))
         (λ f b. r .head g n before (λ o. absurd (z o)) (λ l. f) (λ l. eqb-true _ p b)))
 
-    placed-read : headAt im p .refusal ≡ 0 → linePlaced im n before p (headAt im p) (s .progress) ≡ true → P (countLine n (headAt im p) (s .progress))
+    placed-read : headAt im p .refusal ≡ 0 → linePlaced im n before p (s .progress) ≡ true → P (countLine n (headAt im p) (s .progress))
     unfolding linePlaced countLine
     placed-read z e =
         let r = A .head-reads p z in
@@ -118,7 +118,7 @@ module _ (im : List ℕ) (A : Agree im) (extent most : ℕ) where
     unfolding onHead takeLine
     head-read =
         if-ind P (headAt im p .refusal =? 0)
-        (λ e. if-ind P (linePlaced im n before p (headAt im p) (s .progress)) (λ f. placed-read (eqb-true _ 0 e) f) (λ _ h. is-refused s 6 h))
+        (λ e. if-ind P (linePlaced im n before p (s .progress)) (λ f. placed-read (eqb-true _ 0 e) f) (λ _ h. is-refused s 6 h))
         (λ e h. code-refused s (headAt im p .refusal) e h)
 
   -- ---- a component

@@ -103,7 +103,7 @@ module _ (im : List ℕ) where
     unfolding onHead takeLine countLine
     head-few n before p s =
         if-ind P (headAt im p .refusal =? 0)
-        (λ _. if-ind P (linePlaced im n before p (headAt im p) (s .progress))
+        (λ _. if-ind P (linePlaced im n before p (s .progress))
         (λ _. if-ind P (mostLinesOfTable ≤? n) (λ _ h. is-refused s 7 h)
         (λ e _. leb-false mostLinesOfTable n e))
         (λ _ h. is-refused s 6 h))

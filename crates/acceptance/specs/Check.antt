@@ -11,7 +11,7 @@ use Rattle.field.specs.Sheet.{sizeOf}
 use Rattle.field.specs.declared.record.Field.{Field}
 use Rattle.cmf.specs.Limits.{longestImage, deepestTable, mostLinesOfTable, mostLines, mostFields}
 use Rattle.cmf.specs.Limits.{longestSheet, prologBytes}
-use Rattle.cmf.specs.Readers.{oddFrom, titleAt, headAt, componentAt}
+use Rattle.cmf.specs.Readers.{oddFrom, titleAt, firstAt, backAt, headAt, componentAt}
 use Rattle.cmf.specs.Places.{linesOf, componentsOf}
 use Rattle.cmf.specs.declared.title.Title.{Title}
 use Rattle.cmf.specs.declared.head.Head.{Head}
@@ -70,15 +70,15 @@ takeTitle t w = if t .refusal =? 0 then readTo w (t .end) else refused w (t .ref
 
 -- R8: the first mark is at the first line only, and prev-line-ofs is the distance from the line before; n
 -- lines of the table come before
-unfoldable pub agrees : ℕ → ℕ → ℕ → Head → Bool
-agrees n before p h =
-    if n =? 0 then h .first
-    else if h .first then false
-    else before + h .back =? p
+unfoldable pub agrees : List ℕ → ℕ → ℕ → ℕ → Bool
+agrees im n before p =
+    if n =? 0 then firstAt im p
+    else if firstAt im p then false
+    else before + backAt im p =? p
 
 -- R6, R7, R8: a line is where the one before leads and at the first odd place
-unfoldable pub linePlaced : List ℕ → ℕ → ℕ → ℕ → Head → Progress → Bool
-linePlaced im n before p h w = (p =? oddFrom (w .at)) and (padded im (w .at) p and agrees n before p h)
+unfoldable pub linePlaced : List ℕ → ℕ → ℕ → ℕ → Progress → Bool
+linePlaced im n before p w = (p =? oddFrom (w .at)) and (padded im (w .at) p and agrees im n before p)
 
 -- 01, row 8: the 100th line of its table or the 1,025th of the walk is at fault; row 9: so is a bad password
 unfoldable pub countLine : ℕ → Head → Progress → Progress
@@ -90,7 +90,7 @@ countLine n h w =
 
 unfoldable pub takeLine : List ℕ → ℕ → ℕ → ℕ → Head → Progress → Progress
 takeLine im n before p h w =
-    if h .refusal =? 0 then (if linePlaced im n before p h w then countLine n h w else refused w 7)
+    if h .refusal =? 0 then (if linePlaced im n before p w then countLine n h w else refused w 7)
     else refused w (h .refusal)
 
 -- ---- a component

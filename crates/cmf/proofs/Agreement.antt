@@ -9,7 +9,7 @@ use Rattle.laws.specs.Choice.{if_then_else_, _=?_}
 use Rattle.field.specs.declared.record.Field.{Field}
 use Rattle.cmf.specs.Layouts.{Text, Aligned, Component, code, editBit, lastBit}
 use Rattle.cmf.specs.Grammar.{Head, Password, isLast, hasSubmenu, hasPassword, nextLine, submenuTable, passwordAt}
-use Rattle.cmf.specs.Readers.{oddFrom, evenFrom, titleAt, headAt, componentAt}
+use Rattle.cmf.specs.Readers.{oddFrom, evenFrom, titleAt, firstAt, backAt, headAt, componentAt}
 use Rattle.cmf.specs.Places.{heldBy}
 
 -- what a component of the grammar reads as
@@ -33,16 +33,16 @@ pub record HeadIs (im : List ℕ) (n before p end : ℕ) : Type 0 where
   pub refusal : headAt im p .refusal ≡ 0
   pub good : headAt im p .typeable ≡ true
   pub ends : headAt im p .end ≡ end
-  pub first : n ≡ 0 → headAt im p .first ≡ true
-  pub later : 0 < n → headAt im p .first ≡ false
-  pub back : 0 < n → before + headAt im p .back ≡ p
+  pub first : n ≡ 0 → firstAt im p ≡ true
+  pub later : 0 < n → firstAt im p ≡ false
+  pub back : 0 < n → before + backAt im p ≡ p
 
 -- what is known of a head that reads with code 0
 pub record HeadReads (im : List ℕ) (p : ℕ) : Type 0 where
   -- with a good password and a first mark and distance that agree it is a head of the grammar
   pub head :
-      headAt im p .typeable ≡ true → (n before : ℕ) → (n ≡ 0 → headAt im p .first ≡ true) → (0 < n → headAt im p .first ≡ false) →
-      (0 < n → before + headAt im p .back ≡ p) → Head im n before p (headAt im p .end)
+      headAt im p .typeable ≡ true → (n before : ℕ) → (n ≡ 0 → firstAt im p ≡ true) → (0 < n → firstAt im p ≡ false) →
+      (0 < n → before + backAt im p ≡ p) → Head im n before p (headAt im p .end)
   pub last : headAt im p .last ≡ true → isLast im p ≡ 1
   pub more : headAt im p .last ≡ false → isLast im p ≡ 0
   pub submenu : headAt im p .submenu ≡ true → hasSubmenu im p ≡ 1

@@ -209,7 +209,7 @@ module _ (im : List ℕ) where
         refusal = rw e;
         good = rw e (good (h .protects) (h .password));
         ends = rw e;
-        first = λ z. rw e (eq-eqb _ 1 (h .first z));
-        later = λ z. rw (e, h .later z);
-        back = λ z. rw e (h .previous z);
+        first = λ z. eq-eqb _ 1 (h .first z);
+        later = λ z. rw (h .later z);
+        back = h .previous;
       }

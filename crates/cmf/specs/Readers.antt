@@ -97,11 +97,9 @@ abbrev pub headRefused : ℕ → ℕ → Head
 headRefused p k = record {
   refusal = k;
   typeable = true;
-  first = false;
   last = true;
   submenu = false;
   protected = false;
-  back = 0;
   next = record { 0 = p };
   table = record { 0 = p };
   password = record { 0 = p };
@@ -113,6 +111,14 @@ headRefused p k = record {
 -- dynamic (4), smenu-abs-ofs if there is a submenu (8)
 abbrev pub backPlace : ℕ → ℕ → ℕ
 backPlace p tag = p + 1 + 2 * (1 - tagBit 2 tag)
+
+-- whether the line at p has the mark of the first of its table (1), and its prev-line-ofs, which the first
+-- has not: no parts of the head, since only the check asks for them
+abbrev pub firstAt : List ℕ → ℕ → Bool
+firstAt im p = tagBit 1 (byteAt im p) =? 1
+
+abbrev pub backAt : List ℕ → ℕ → ℕ
+backAt im p = wordAt im (backPlace p (byteAt im p))
 
 abbrev pub submenuPlace : ℕ → ℕ → ℕ
 submenuPlace p tag = backPlace p tag + 2 * (1 - tagBit 1 tag) + 2 * tagBit 4 tag
@@ -129,11 +135,9 @@ abbrev pub headRead : List ℕ → ℕ → ℕ → ℕ → Head
 headRead im p tag end = record {
   refusal = 0;
   typeable = if passwords tag =? 1 then passwordFits im (optionsEnd p tag) else true;
-  first = tagBit 1 tag =? 1;
   last = tagBit 2 tag =? 1;
   submenu = tagBit 8 tag =? 1;
   protected = passwords tag =? 1;
-  back = wordAt im (backPlace p tag);
   next = record { 0 = p + wordAt im (p + 1) };
   table = record { 0 = prologBytes + wordAt im (submenuPlace p tag) };
   password = record { 0 = optionsEnd p tag };

@@ -5,7 +5,8 @@ ghost use mathlib.Core.Bool.{true};
 ghost use lib.ListN.{length};
 ghost use Rattle.laws.specs.Choice.{if_then_else_};
 ghost use Rattle.cmf.specs.Readers.{textsFrom, passwordFits, headRefused, passwords};
-ghost use Rattle.cmf.specs.Readers.{backPlace, submenuPlace, optionsEnd, headRead, headBy, headAt};
+ghost use Rattle.cmf.specs.Readers.{firstAt, backPlace, backAt, submenuPlace, optionsEnd, headRead, headBy};
+ghost use Rattle.cmf.specs.Readers.{headAt};
 use crate::image::Image;
 use crate::image::word_in;
 use crate::text::password_fits;
@@ -15,17 +16,15 @@ use laws::byte_at;
 use laws::room;
 use laws::word_at;
 
-// refusal: 0, or 6 or 7. typeable: its password, if it has one, is of 1 to 8 digits. first, last: of its
-// table. back: the distance from the line before. next, table, password, component: the places of the next
-// line, of the submenu's table, of the password, of the first component; without meaning if it has none.
+// refusal: 0, or 6 or 7. typeable: its password, if it has one, is of 1 to 8 digits. last: of its table.
+// next, table, password, component: the places of the next line, of the submenu's table, of the password, of
+// the first component; without meaning if it has none.
 pub struct Head {
     pub refusal: u8,
     pub typeable: bool,
-    pub first: bool,
     pub last: bool,
     pub submenu: bool,
     pub protected: bool,
-    pub back: usize,
     pub next: ImagePlace,
     pub table: ImagePlace,
     pub password: ImagePlace,
@@ -44,11 +43,9 @@ impl Head {
         Head {
             refusal,
             typeable: true,
-            first: false,
             last: true,
             submenu: false,
             protected: false,
-            back: 0,
             next: ImagePlace(p),
             table: ImagePlace(p),
             password: ImagePlace(p),
@@ -71,7 +68,7 @@ pub fn submenu_offset(tag: u8) -> usize
     ensures { λ r. ⌜ r ≡ submenuPlace 0 tag ⌝ }
 {
     let t = tag as usize;
-    back_offset(tag) + 2 * (1 - t % 2) + 2 * (t / 4 % 2)
+    back_offset(tag) + 2 - 2 * (t % 2) + 2 * (t / 4 % 2)
 }
 
 // How many bytes tag and options take; a password follows them.
@@ -79,6 +76,23 @@ pub fn options_length(tag: u8) -> usize
     ensures { λ r. ⌜ r ≡ optionsEnd 0 tag ⌝ }
 {
     submenu_offset(tag) + 2 * (tag as usize / 8 % 2)
+}
+
+// Whether the line at a place has the mark of the first of its table.
+pub fn is_first(image: &[u8], p: usize) -> bool
+    ensures { λ r. ⌜ r ≡ firstAt (now (image .entry)) p ⌝ }
+{
+    byte_at(image, p) % 2 == 1
+}
+
+// The pointer back of the line at a place; without meaning for the first of a table.
+pub fn back_at(image: &[u8], p: usize) -> usize
+    ensures { λ r. ⌜ r ≡ backAt (now (image .entry)) p ⌝ }
+{
+    if p < image.len() {
+        return word_at(image, p + back_offset(image[p])) as usize;
+    }
+    0
 }
 
 fn is_typeable(image: &[u8], protected: bool, at: usize) -> bool
@@ -100,16 +114,13 @@ fn head_read(image: &[u8], p: usize, tag: u8, end: usize) -> Head
     let protected = (t / 8 % 2) * (t / 16 % 2) == 1;
     let typeable = is_typeable(image, protected, password);
     let a = word_at(image, p + 1) as usize;
-    let b = word_at(image, p + back_offset(tag)) as usize;
     let d = word_at(image, p + submenu_offset(tag)) as usize;
     Head {
         refusal: 0,
         typeable,
-        first: t % 2 == 1,
         last: t / 2 % 2 == 1,
         submenu: t / 8 % 2 == 1,
         protected,
-        back: b,
         next: ImagePlace(p + a),
         table: ImagePlace(Image::PROLOG + d),
         password: ImagePlace(password),
@@ -163,11 +174,9 @@ fn short_head(image: &[u8], p: usize, tag: u8) -> Head
     Head {
         refusal: 0,
         typeable: true,
-        first: t % 2 == 1,
         last: t / 2 % 2 == 1,
         submenu: t / 8 % 2 == 1,
         protected: false,
-        back: word_in(image, p + back_offset(tag)),
         next: ImagePlace(p + word_in(image, p + 1)),
         table: ImagePlace(Image::PROLOG + word_in(image, p + submenu_offset(tag))),
         password: ImagePlace(end),

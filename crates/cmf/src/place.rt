@@ -127,7 +127,7 @@ pub fn reach(image: &[u8], table: usize, k: usize) -> Found
     let mut p = title.line.0;
     let mut left = k;
     while 0 < left {
-        let h = step_at(image, p);
+        let h = read_head(image, p);
         if h.last {
             return Found::Nothing;
         }

@@ -17,6 +17,8 @@ use acceptance::progress::Progress;
 use cmf::component::Component;
 use cmf::component::read_component;
 use cmf::head::Head;
+use cmf::head::back_at;
+use cmf::head::is_first;
 use cmf::head::read_head;
 use cmf::image::Image;
 use cmf::title::Title;
@@ -53,29 +55,30 @@ fn take_title(t: Title, w: Progress) -> Progress
 }
 
 // Whether a line's first mark and pointer back agree with the walk; n lines of its table come before it.
-fn is_agreeing(n: usize, before: usize, p: usize, h: Head) -> bool
-    ensures { λ r. ⌜ r ≡ agrees n before p h ⌝ }
+fn is_agreeing(image: &[u8], n: usize, before: usize, p: usize) -> bool
+    ensures { λ r. ⌜ r ≡ agrees (now (image .entry)) n before p ⌝ }
 {
+    let first = is_first(image, p);
     if n == 0 {
-        return h.first;
+        return first;
     }
-    if h.first {
+    if first {
         return false;
     }
     if before <= p {
-        return h.back == p - before;
+        return back_at(image, p) == p - before;
     }
     false
 }
 
-fn is_placed(image: &[u8], n: usize, before: usize, p: usize, h: Head, w: Progress) -> bool
-    ensures { λ r. ⌜ r ≡ linePlaced (now (image .entry)) n before p h w ⌝ }
+fn is_placed(image: &[u8], n: usize, before: usize, p: usize, w: Progress) -> bool
+    ensures { λ r. ⌜ r ≡ linePlaced (now (image .entry)) n before p w ⌝ }
 {
     let at = w.at;
     if p == at + (1 - at % 2) {
         let zero = is_padded(image, at, p);
         if zero {
-            return is_agreeing(n, before, p, h);
+            return is_agreeing(image, n, before, p);
         }
         return false;
     }
@@ -107,7 +110,7 @@ fn take_line(image: &[u8], n: usize, before: usize, p: usize, h: Head, w: Progre
     ensures { λ r. ⌜ r ≡ takeLine (now (image .entry)) n before p h w ⌝ }
 {
     if h.refusal == 0 {
-        let placed = is_placed(image, n, before, p, h, w);
+        let placed = is_placed(image, n, before, p, w);
         if placed {
             return count_line(n, h, w);
         }

@@ -2,7 +2,6 @@
 use Prim.Native.Nat.{_-_, _≤_}
 use mathlib.Core.Path.{_≡_, refl, sym, _∙_}
 use native.Mathlib.Omega.{arith}
-use Rattle.cmf.specs.Readers.{headAt}
 use Rattle.cmf.proofs.Finding.{ahead, reach-far, reach-last, reach-next, reach-here, reach-first}
 use borrow.Author.Needs.{needs}
 use Rattle.cmf.proofs.place.reach.Statement.{statement}
@@ -23,11 +22,11 @@ read-title-requires c κs = search needs
 loop-holds : tie.Need-loop-holds Inv-loop μ-loop
 loop-holds c = (omega arith, refl)
 
-step-at-requires : tie.Need-step-at-requires Inv-loop μ-loop
-step-at-requires c κs = search needs
+read-head-requires : tie.Need-read-head-requires Inv-loop μ-loop
+read-head-requires c κs = search needs
 
 returns-2 : tie.Need-returns-2 Inv-loop μ-loop
-returns-2 c = sym (reach-last _ (100 - c .before .before .before .before .before .before .before .args .k) (c .before .before .before .loop .left) (c .before .before .before .loop .p) (headAt (c .before .before .before .before .before .before .before .args .image .now) (c .before .before .before .loop .p)) (c .before .before .loop-test .taken) refl (sym (c .before .step-at .ensures .0) ∙ c .if2 .taken)) ∙ c .before .before .before .loop .inv .1 ∙ reach-first _ _ _ (c .before .before .before .before .read-title .result) (c .before .before .before .before .read-title .ensures) (c .before .before .before .loop .inv .0)
+returns-2 c = sym (reach-last _ (100 - c .before .before .before .before .before .before .before .args .k) (c .before .before .before .loop .left) (c .before .before .before .loop .p) (c .before .read-head .result) (c .before .before .loop-test .taken) (c .before .read-head .ensures) (c .if2 .taken)) ∙ c .before .before .before .loop .inv .1 ∙ reach-first _ _ _ (c .before .before .before .before .read-title .result) (c .before .before .before .before .read-title .ensures) (c .before .before .before .loop .inv .0)
 
 sub-left : tie.Need-sub-left Inv-loop μ-loop
 sub-left c = omega arith
@@ -36,7 +35,7 @@ loop-less : tie.Need-loop-less Inv-loop μ-loop
 loop-less c = omega arith
 
 loop-again : tie.Need-loop-again Inv-loop μ-loop
-loop-again c = (omega arith, rw (c .before .step-at .ensures .1) (reach-next _ (100 - c .before .before .before .before .before .before .before .args .k) (c .before .before .before .loop .left) (c .before .before .before .loop .p) (headAt (c .before .before .before .before .before .before .before .args .image .now) (c .before .before .before .loop .p)) (c .before .before .loop-test .taken) refl (sym (c .before .step-at .ensures .0) ∙ c .if2 .left) ∙ c .before .before .before .loop .inv .1))
+loop-again c = (omega arith, reach-next _ (100 - c .before .before .before .before .before .before .before .args .k) (c .before .before .before .loop .left) (c .before .before .before .loop .p) (c .before .read-head .result) (c .before .before .loop-test .taken) (c .before .read-head .ensures) (c .if2 .left) ∙ c .before .before .before .loop .inv .1)
 
 returns-3 : tie.Need-returns-3 Inv-loop μ-loop
 returns-3 c = sym (reach-here _ (100 - c .before .before .before .before .before .args .k) (c .before .loop .left) (c .before .loop .p) (omega arith) (c .loop-test .left)) ∙ c .before .loop .inv .1 ∙ reach-first _ _ _ (c .before .before .read-title .result) (c .before .before .read-title .ensures) (c .before .loop .inv .0)
@@ -50,7 +49,7 @@ reach-spec =
     returns
     read-title-requires
     loop-holds
-    step-at-requires
+    read-head-requires
     returns-2
     sub-left
     loop-less
