@@ -3,3 +3,4 @@
 // paper fixes.
 pub mod index;
 pub mod progress;
+pub mod shared;

@@ -7,11 +7,11 @@ ghost use Rattle.picture.specs.Cursor.{cursorPlace};
 ghost use Rattle.handset.specs.Refusals.{_before_, _unless_};
 ghost use Rattle.handset.specs.Draw.{drawRefusal, drawCursor, drawnPicture};
 use crate::refusal::NO_PICTURE;
+use crate::refusal::refusal_of;
 use crate::refusal::session_refusal;
 use picture::cursor::EditCursor;
 use picture::cursor::edit_cursor;
 use picture::picture::put_picture;
-use quick::accept::refusal_of;
 use session::session::Session;
 
 // The refusal number, 0 for none, and the edit cursor: nowhere where it is refused.

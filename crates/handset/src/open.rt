@@ -5,7 +5,7 @@ ghost use Rattle.session.specs.Session.{closed};
 ghost use Rattle.handset.specs.Open.{openAnswer, openSheet};
 use crate::defaults::write_defaults;
 use crate::refusal::NO_SHAPE;
-use quick::accept::refusal_of;
+use crate::refusal::refusal_of;
 use session::fits::shape_fits;
 use session::session::Session;
 

@@ -1,8 +1,11 @@
-// The refusal numbers of the calls, and the tests that Event and Draw share.
+// The refusal numbers of the calls, and the tests that they share.
 ghost use mathlib.Core.Path.{_≡_};
+ghost use Rattle.acceptance.specs.Check.{refusalOf};
 ghost use Rattle.session.specs.Fits.{sessionFits};
 ghost use Rattle.handset.specs.Refusals.{_before_, _unless_};
+use quick::accept::is_accepted;
 use session::session::Session;
+use walk::check::check;
 
 // A display of a shape that the paper does not allow.
 pub const NO_SHAPE: u8 = 1;
@@ -18,6 +21,19 @@ pub const NO_EVENT: u8 = 13;
 
 // A place that is no reached option field, or an item that it has not.
 pub const NO_ITEM: u8 = 14;
+
+// The refusal number of an image for a sheet of so many bytes, 0 for none: the quick walk is asked first, and
+// in doubt the check.
+pub fn refusal_of(image: &[u8], extent: usize) -> u8
+    ensures { λ r. ⌜ r ≡ refusalOf (now (image .entry)) extent ⌝ }
+{
+    let accepted = is_accepted(image, extent);
+    if accepted {
+        return 0;
+    }
+    let c = check(image, extent);
+    c.progress.refusal
+}
 
 // The refusal number, 0 for none, where that of image and sheet is known.
 pub fn session_refusal(refusal: u8, image: &[u8], session: Session) -> u8

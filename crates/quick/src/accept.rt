@@ -16,10 +16,9 @@ use crate::heads::submenu_of;
 use crate::position::Position;
 use crate::run::run;
 use crate::tally::Tally;
+use acceptance::shared::prolog_code;
 use cmf::image::Image;
 use cmf::title::read_title;
-use walk::check::check;
-use walk::check::prolog_code;
 
 // A position that gives doubt.
 fn doubtful(s: Position) -> Position
@@ -164,8 +163,8 @@ fn accept_table(
     Tally::doubt()
 }
 
-// Whether nothing gives the walk doubt.
-fn is_accepted(image: &[u8], extent: usize) -> bool
+// Whether nothing gives the walk doubt: then the check would refuse nothing.
+pub fn is_accepted(image: &[u8], extent: usize) -> bool
     ensures { λ r. ⌜ (r ≡ true → refusalOf (now (image .entry)) extent ≡ 0) ⌝ }
 {
     let code = prolog_code(image);
@@ -191,16 +190,4 @@ fn is_accepted(image: &[u8], extent: usize) -> bool
         &mut marks,
     );
     end.sure
-}
-
-// The refusal number of an image for a sheet of so many bytes, 0 for none.
-pub fn refusal_of(image: &[u8], extent: usize) -> u8
-    ensures { λ r. ⌜ r ≡ refusalOf (now (image .entry)) extent ⌝ }
-{
-    let accepted = is_accepted(image, extent);
-    if accepted {
-        return 0;
-    }
-    let c = check(image, extent);
-    c.progress.refusal
 }

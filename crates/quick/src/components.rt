@@ -11,7 +11,7 @@ ghost use Rattle.cmf.specs.Layouts.{Aligned, Component};
 ghost use Rattle.quick.specs.Accept.{Passes};
 use crate::fixed::accept_field;
 use crate::tally::Tally;
-use walk::check::is_padded;
+use acceptance::shared::is_padded;
 
 // Where the constant string at a place ends; 0 in doubt.
 fn string_end(image: &[u8], at: usize) -> usize

@@ -1,19 +1,19 @@
 // The check of an image and a sheet: refusals 2 to 11 in the order of the walk.
 ghost use mathlib.Core.Path.{_≡_};
 ghost use Prim.Native.Nat.{_+_, _<_};
-ghost use Rattle.laws.specs.Choice.{_and_, _=?_};
-ghost use Rattle.laws.specs.Bytes.{byteAt};
 ghost use lib.ListN.{length};
 ghost use Rattle.cmf.specs.Places.{componentsFrom};
-ghost use Rattle.acceptance.specs.Check.{padded, takeTitle, agrees, linePlaced, countLine, takeLine};
+ghost use Rattle.acceptance.specs.Check.{takeTitle, agrees, linePlaced, countLine, takeLine};
 ghost use Rattle.acceptance.specs.Check.{takeField, takeComponent, onComponents, onLine, onTable};
-ghost use Rattle.acceptance.specs.Check.{prologCode, checked};
+ghost use Rattle.acceptance.specs.Check.{checked};
 ghost use Rattle.acceptance.specs.Index.{capacity, seen, indexOf};
 ghost use Rattle.acceptance.specs.Clean.{StaysClean};
 use acceptance::index::Entry;
 use acceptance::index::apart_from;
 use acceptance::index::set_entry;
 use acceptance::progress::Progress;
+use acceptance::shared::is_padded;
+use acceptance::shared::prolog_code;
 use cmf::component::Component;
 use cmf::component::read_component;
 use cmf::head::Head;
@@ -23,7 +23,6 @@ use cmf::head::read_head;
 use cmf::image::Image;
 use cmf::title::Title;
 use cmf::title::read_title;
-use laws::byte_at;
 
 // The numbers of an index: three for each field that there may be.
 const INDEX: usize = 3 * Image::MAX_FIELDS;
@@ -33,16 +32,6 @@ const INDEX: usize = 3 * Image::MAX_FIELDS;
 pub struct Checked {
     pub progress: Progress,
     pub index: [usize; INDEX],
-}
-
-// Whether what is at a place follows what ended before it at once, or after one zero byte.
-pub fn is_padded(image: &[u8], at: usize, place: usize) -> bool
-    ensures { λ r. ⌜ r ≡ padded (now (image .entry)) at place ⌝ }
-{
-    if at == place {
-        return true;
-    }
-    byte_at(image, at) == 0
 }
 
 fn take_title(t: Title, w: Progress) -> Progress
@@ -286,55 +275,6 @@ fn check_table(
         n = n + 1;
     }
     v
-}
-
-// The prolog's refusal: 2 to 5, 0 for none.
-pub fn prolog_code(image: &[u8]) -> u8
-    ensures { λ r. ⌜ r ≡ prologCode (now (image .entry)) ⌝ }
-{
-    if image.len() < Image::PROLOG {
-        return 2;
-    }
-    if Image::MAX_BYTES < image.len() {
-        return 2;
-    }
-    let name = has_name(image);
-    if name {
-        let version = has_pair(image, 3, 0, 4);
-        if version {
-            let mark = has_pair(image, 8, 0xff, 0xfe);
-            if mark {
-                return 0;
-            }
-            return 5;
-        }
-        return 4;
-    }
-    3
-}
-
-fn has_name(image: &[u8]) -> bool
-    ensures { λ r. ⌜ r ≡ (byteAt (now (image .entry)) 0 =? 0x43)
-        and ((byteAt (now (image .entry)) 1 =? 0x4d) and (byteAt (now (image .entry)) 2 =? 0x46)) ⌝ }
-{
-    if byte_at(image, 0) == 0x43 {
-        if byte_at(image, 1) == 0x4d {
-            return byte_at(image, 2) == 0x46;
-        }
-        return false;
-    }
-    false
-}
-
-fn has_pair(image: &[u8], at: usize, low: u8, high: u8) -> bool
-    requires { ⌜ at < 10 ⌝ }
-    ensures { λ r. ⌜ r ≡ (byteAt (now (image .entry)) at =? low)
-        and (byteAt (now (image .entry)) (at + 1) =? high) ⌝ }
-{
-    if byte_at(image, at) == low {
-        return byte_at(image, at + 1) == high;
-    }
-    false
 }
 
 // The refusal number of an image for a sheet of so many bytes, 0 for none, and the fields that were reached,

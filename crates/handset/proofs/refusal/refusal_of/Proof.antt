@@ -3,8 +3,8 @@ use mathlib.Core.Path.{sym, ap}
 use Rattle.acceptance.specs.Check.{refusalOf}
 use Rattle.acceptance.specs.declared.progress.Progress.{Progress}
 use borrow.Author.Needs.{needs}
-use Rattle.quick.proofs.accept.refusal_of.Statement.{statement}
-use Rattle.quick.proofs.accept.refusal_of.Tie as tie
+use Rattle.handset.proofs.refusal.refusal_of.Statement.{statement}
+use Rattle.handset.proofs.refusal.refusal_of.Tie as tie
 
 is-accepted-requires : tie.Need-is-accepted-requires
 is-accepted-requires c κs = search needs

@@ -1,10 +1,10 @@
 -- Each return is the case of the definition that the tests on its path choose.
 use Rattle.laws.specs.Choice.{if_then_else_}
 use borrow.Author.Tests.{lt-ltb, le-ltb}
 use Rattle.acceptance.specs.Check.{prologCode}
 use borrow.Author.Needs.{needs}
-use Rattle.walk.proofs.check.prolog_code.Statement.{statement}
-use Rattle.walk.proofs.check.prolog_code.Tie as tie
+use Rattle.acceptance.proofs.shared.prolog_code.Statement.{statement}
+use Rattle.acceptance.proofs.shared.prolog_code.Tie as tie
 
 returns : tie.Need-returns
 unfolding prologCode if_then_else_

@@ -3,10 +3,10 @@ use Rattle.laws.proofs.Cases.{choices}
 use native.Mathlib.Omega.{arith}
 use Rattle.laws.specs.Choice.{if_then_else_}
 use borrow.Author.Tests.{ne-eqb}
 use Rattle.acceptance.specs.Check.{padded}
 use borrow.Author.Needs.{needs}
-use Rattle.walk.proofs.check.is_padded.Statement.{statement}
-use Rattle.walk.proofs.check.is_padded.Tie as tie
+use Rattle.acceptance.proofs.shared.is_padded.Statement.{statement}
+use Rattle.acceptance.proofs.shared.is_padded.Tie as tie
 
 returns : tie.Need-returns
 unfolding padded

@@ -2,8 +2,8 @@
 use Rattle.laws.specs.Choice.{_and_}
 use borrow.Author.Tests.{eq-eqb, ne-eqb}
 use borrow.Author.Needs.{needs}
-use Rattle.walk.proofs.check.has_name.Statement.{statement}
-use Rattle.walk.proofs.check.has_name.Tie as tie
+use Rattle.acceptance.proofs.shared.has_name.Statement.{statement}
+use Rattle.acceptance.proofs.shared.has_name.Tie as tie
 
 byte-at-requires : tie.Need-byte-at-requires
 byte-at-requires c κs = search needs
