@@ -1,11 +1,18 @@
--- The defaults on the way through an image, one step at a time, over variables whose premises are what the callees ensure: to write those of
--- two lists of places in turn is to write those of the joined list.
-use Prim.Native.Nat.{ℕ, suc, _+_, _-_, _≤_, _<_}
+-- The fields on the way through an image, one step at a time, over variables whose premises are what the callees ensure: to take those of
+-- two lists of places in turn is to take those of the joined list. At the end a list that had room for none leaves the defaults alone, and
+-- an empty one is the fields' places.
+use Prim.Native.Nat.{ℕ, suc, _+_, _-_, _≤_, _<_, min}
 use mathlib.Core.Path.{_≡_, refl, sym, ap, _∙_}
 use mathlib.Core.Bool.{Bool, true, false}
-use mathlib.Core.List.{List, [], _∷_, _++_}
+use mathlib.Core.List.{List, [], _∷_, _++_, map}
+use native.Mathlib.Nat.{min-eq-left, min-eq-right}
 use native.Mathlib.Omega.{arith}
-use Rattle.laws.specs.Choice.{if_then_else_}
+use lib.ListN.{length, set, length-set}
+use borrow.Author.Tests.{ltb-true, ltb-false}
+use Rattle.laws.specs.Choice.{if_then_else_, _<?_}
+use Rattle.laws.specs.Overwrite.{over, fit}
+use Rattle.laws.proofs.Cases.{by-test, if-lt, if-ge}
+use Rattle.laws.proofs.Overwriting.{over-nil, over-out, over-cons, over-blank, length-fit}
 use Rattle.field.specs.Sheet.{defaultWritten}
 use Rattle.field.specs.declared.record.Field.{Field}
 use Rattle.cmf.specs.Readers.{titleAt, headAt, componentAt}
@@ -14,104 +21,172 @@ use Rattle.cmf.specs.declared.title.Title.{Title}
 use Rattle.cmf.specs.declared.head.Head.{Head}
 use Rattle.cmf.specs.declared.component.Component.{Component}
 use Rattle.acceptance.proofs.Places.{among-join}
+use Rattle.handset.specs.Fields.{Taken, taken, takeOne, takeAll}
 use Rattle.handset.specs.Open.{defaultsWritten}
 
-written-join : (fs gs : List Field) (s : List ℕ) → defaultsWritten (fs ++ gs) s ≡ defaultsWritten gs (defaultsWritten fs s)
-unfolding defaultsWritten
-written-join [] gs s = refl
-written-join (f ∷ fs) gs s = written-join fs gs _
+taken-join : (fs gs : List Field) (s : Taken) → takeAll (fs ++ gs) s ≡ takeAll gs (takeAll fs s)
+unfolding takeAll
+taken-join [] gs s = refl
+taken-join (f ∷ fs) gs s = taken-join fs gs _
 
--- a component's, if it is a field
-pub held-written : (c : Component) (s : List ℕ) {t : List ℕ} → c .fielded ≡ true → t ≡ defaultWritten (c .field) s → t ≡ defaultsWritten (heldBy c) s
-unfolding defaultsWritten if_then_else_
-held-written c s h e = e ∙ rw h
+pub taken-same : {s t ps qs : List ℕ} {k r : ℕ} → s ≡ t → k ≡ r → ps ≡ qs → taken s k ps ≡ taken t r qs
+taken-same a b c = rw (a, b, c)
 
-pub none-written : (c : Component) {s : List ℕ} → c .fielded ≡ false → s ≡ defaultsWritten (heldBy c) s
-unfolding defaultsWritten if_then_else_
-none-written c h = rw h
+-- a field, with room for its place and without
+pub one-taken : (f : Field) (s ps : List ℕ) (k : ℕ) {t : List ℕ} → k < length ps → t ≡ defaultWritten f s → taken t (k + 1) (set ps k (f .image .0)) ≡ takeOne f (taken s k ps)
+unfolding takeOne
+one-taken f s ps k h e = rw (if-lt k (length ps) (k + 1) k h, if-lt k (length ps) (set ps k (f .image .0)) ps h, e)
+
+pub one-dropped : (f : Field) (s ps : List ℕ) (k : ℕ) {t : List ℕ} → length ps ≤ k → t ≡ defaultWritten f s → taken t k ps ≡ takeOne f (taken s k ps)
+unfolding takeOne
+one-dropped f s ps k h e = rw (if-ge k (length ps) (k + 1) k h, if-ge k (length ps) (set ps k (f .image .0)) ps h, e)
+
+-- a component, if it is a field
+pub held-taken : (c : Component) (s : Taken) {t : Taken} → c .fielded ≡ true → t ≡ takeOne (c .field) s → t ≡ takeAll (heldBy c) s
+unfolding takeAll if_then_else_
+held-taken c s h e = e ∙ rw h
+
+pub none-taken : (c : Component) {s : Taken} → c .fielded ≡ false → s ≡ takeAll (heldBy c) s
+unfolding takeAll if_then_else_
+none-taken c h = rw h
 
 module _ (im : List ℕ) where
-  -- the defaults of the fields among these places
-  abbrev pub writtenAt : List ℕ → List ℕ → List ℕ
-  writtenAt ps s = defaultsWritten (fieldsAmong im ps) s
+  -- with the fields among these places
+  abbrev pub takenAt : List ℕ → Taken → Taken
+  takenAt ps s = takeAll (fieldsAmong im ps) s
 
-  at-join : (ps qs s : List ℕ) → writtenAt (ps ++ qs) s ≡ writtenAt qs (writtenAt ps s)
-  at-join ps qs s = ap (λ (fs : List Field). defaultsWritten fs s) (among-join im ps qs) ∙ written-join (fieldsAmong im ps) (fieldsAmong im qs) s
+  at-join : (ps qs : List ℕ) (s : Taken) → takenAt (ps ++ qs) s ≡ takenAt qs (takenAt ps s)
+  at-join ps qs s = ap (λ (fs : List Field). takeAll fs s) (among-join im ps qs) ∙ taken-join (fieldsAmong im ps) (fieldsAmong im qs) s
 
-  at-if : (t : Bool) (ps s : List ℕ) → writtenAt (if t then ps else []) s ≡ (if t then writtenAt ps s else s)
-  unfolding if_then_else_ fieldsAmong defaultsWritten
+  at-if : (t : Bool) (ps : List ℕ) (s : Taken) → takenAt (if t then ps else []) s ≡ (if t then takenAt ps s else s)
+  unfolding if_then_else_ fieldsAmong takeAll
   at-if true ps s = refl
   at-if false ps s = refl
 
   -- ---- components
 
-  module _ (left p : ℕ) (s t : List ℕ) (c : Component) (h : 0 < left) (e : c ≡ componentAt im p) (f : t ≡ defaultsWritten (heldBy c) s) where
-    components-one : writtenAt (componentsFrom im left p) s ≡ writtenAt (if c .last then [] else componentsFrom im (left - 1) (c .next .0)) t
+  module _ (left p : ℕ) (s t : Taken) (c : Component) (h : 0 < left) (e : c ≡ componentAt im p) (f : t ≡ takeAll (heldBy c) s) where
+    components-one : takenAt (componentsFrom im left p) s ≡ takenAt (if c .last then [] else componentsFrom im (left - 1) (c .next .0)) t
     unfolding componentsFrom fieldsAmong
     components-one =
         let z : left ≡ suc (left - 1) = omega arith in
-        ap (λ (n : ℕ). writtenAt (componentsFrom im n p) s) z
-        ∙ ap (λ (x : Component). defaultsWritten (heldBy x ++ fieldsAmong im (if x .last then [] else componentsFrom im (left - 1) (x .next .0))) s) (sym e)
-        ∙ written-join (heldBy c) _ s ∙ ap (writtenAt (if c .last then [] else componentsFrom im (left - 1) (c .next .0))) (sym f)
+        ap (λ (n : ℕ). takenAt (componentsFrom im n p) s) z
+        ∙ ap (λ (x : Component). takeAll (heldBy x ++ fieldsAmong im (if x .last then [] else componentsFrom im (left - 1) (x .next .0))) s) (sym e)
+        ∙ taken-join (heldBy c) _ s ∙ ap (takenAt (if c .last then [] else componentsFrom im (left - 1) (c .next .0))) (sym f)
 
-    pub components-last : c .last ≡ true → writtenAt (componentsFrom im left p) s ≡ t
-    unfolding fieldsAmong defaultsWritten if_then_else_
+    pub components-last : c .last ≡ true → takenAt (componentsFrom im left p) s ≡ t
+    unfolding fieldsAmong takeAll if_then_else_
     components-last l = components-one ∙ rw l
 
-    pub components-next : c .last ≡ false → writtenAt (componentsFrom im left p) s ≡ writtenAt (componentsFrom im (left - 1) (c .next .0)) t
+    pub components-next : c .last ≡ false → takenAt (componentsFrom im left p) s ≡ takenAt (componentsFrom im (left - 1) (c .next .0)) t
     unfolding if_then_else_
     components-next l = components-one ∙ rw l
 
-  pub components-done : (left p : ℕ) (s : List ℕ) → left ≤ 0 → writtenAt (componentsFrom im left p) s ≡ s
-  unfolding componentsFrom fieldsAmong defaultsWritten
+  pub components-done : (left p : ℕ) (s : Taken) → left ≤ 0 → takenAt (componentsFrom im left p) s ≡ s
+  unfolding componentsFrom fieldsAmong takeAll
   components-done left p s h = let e : left ≡ 0 = omega arith in rw e
 
   -- ---- lines and tables
 
   module _ (below : ℕ) where
     -- those of the table's lines from the nth on, at p
-    abbrev pub rest : ℕ → ℕ → List ℕ → List ℕ
-    rest n p s = writtenAt (linesReach im (tableReach im below) (linesFrom im (100 - n) p)) s
+    abbrev pub rest : ℕ → ℕ → Taken → Taken
+    rest n p s = takenAt (linesReach im (tableReach im below) (linesFrom im (100 - n) p)) s
 
-    module _ (n p : ℕ) (s u t : List ℕ) (h : Head) (few : n < 100) (e : h ≡ headAt im p) (f : u ≡ writtenAt (restOfLine im (h .component .0)) s)
-        (g : t ≡ if h .submenu then writtenAt (tableReach im below (h .table .0)) u else u) where
-      line-one : writtenAt (lineReach im (tableReach im below) p) s ≡ t
+    module _ (n p : ℕ) (s u t : Taken) (h : Head) (few : n < 100) (e : h ≡ headAt im p) (f : u ≡ takenAt (restOfLine im (h .component .0)) s)
+        (g : t ≡ if h .submenu then takenAt (tableReach im below (h .table .0)) u else u) where
+      line-one : takenAt (lineReach im (tableReach im below) p) s ≡ t
       unfolding lineReach componentsOf
       line-one =
-          ap (λ (x : Head). writtenAt (restOfLine im (x .component .0) ++ (if x .submenu then tableReach im below (x .table .0) else [])) s) (sym e)
+          ap (λ (x : Head). takenAt (restOfLine im (x .component .0) ++ (if x .submenu then tableReach im below (x .table .0) else [])) s) (sym e)
           ∙ at-join (restOfLine im (h .component .0)) _ s ∙ at-if (h .submenu) (tableReach im below (h .table .0)) _
-          ∙ ap (λ (x : List ℕ). if h .submenu then writtenAt (tableReach im below (h .table .0)) x else x) (sym f) ∙ sym g
+          ∙ ap (λ (x : Taken). if h .submenu then takenAt (tableReach im below (h .table .0)) x else x) (sym f) ∙ sym g
 
-      lines-one : rest n p s ≡ writtenAt (linesReach im (tableReach im below) (if h .last then [] else linesFrom im (100 - (n + 1)) (h .next .0))) t
+      lines-one : rest n p s ≡ takenAt (linesReach im (tableReach im below) (if h .last then [] else linesFrom im (100 - (n + 1)) (h .next .0))) t
       unfolding linesFrom linesReach
       lines-one =
           let z : 100 - n ≡ suc (100 - (n + 1)) = omega arith in
-          ap (λ (k : ℕ). writtenAt (linesReach im (tableReach im below) (linesFrom im k p)) s) z
+          ap (λ (k : ℕ). takenAt (linesReach im (tableReach im below) (linesFrom im k p)) s) z
           ∙ ap
-          (λ (x : Head). writtenAt (lineReach im (tableReach im below) p
+          (λ (x : Head). takenAt (lineReach im (tableReach im below) p
           ++ linesReach im (tableReach im below) (if x .last then [] else linesFrom im (100 - (n + 1)) (x .next .0))) s) (sym e)
           ∙ at-join (lineReach im (tableReach im below) p) _ s
-          ∙ ap (writtenAt (linesReach im (tableReach im below) (if h .last then [] else linesFrom im (100 - (n + 1)) (h .next .0)))) line-one
+          ∙ ap (takenAt (linesReach im (tableReach im below) (if h .last then [] else linesFrom im (100 - (n + 1)) (h .next .0)))) line-one
 
       pub lines-last : h .last ≡ true → rest n p s ≡ t
-      unfolding linesReach fieldsAmong defaultsWritten if_then_else_
+      unfolding linesReach fieldsAmong takeAll if_then_else_
       lines-last l = lines-one ∙ rw l
 
       pub lines-next : h .last ≡ false → rest n p s ≡ rest (n + 1) (h .next .0) t
       unfolding if_then_else_
       lines-next l = lines-one ∙ rw l
 
-    pub lines-done : (n p : ℕ) (s : List ℕ) → 100 ≤ n → rest n p s ≡ s
-    unfolding linesFrom linesReach fieldsAmong defaultsWritten
+    pub lines-done : (n p : ℕ) (s : Taken) → 100 ≤ n → rest n p s ≡ s
+    unfolding linesFrom linesReach fieldsAmong takeAll
     lines-done n p s h = let e : 100 - n ≡ 0 = omega arith in rw e
 
   -- below the deepest table there is nothing
-  pub table-none : (left t : ℕ) (s : List ℕ) → left ≡ 0 → writtenAt (tableReach im left t) s ≡ s
-  unfolding tableReach fieldsAmong defaultsWritten
+  pub table-none : (left t : ℕ) (s : Taken) → left ≡ 0 → takenAt (tableReach im left t) s ≡ s
+  unfolding tableReach fieldsAmong takeAll
   table-none left t s e = rw e
 
-  pub table-lines : (left at : ℕ) (t : Title) (s : List ℕ) → (left ≡ 0 → ⊥) → t ≡ titleAt im at → writtenAt (tableReach im left at) s ≡ rest (left - 1) 0 (t .line .0) s
+  pub table-lines : (left at : ℕ) (t : Title) (s : Taken) → (left ≡ 0 → ⊥) → t ≡ titleAt im at → takenAt (tableReach im left at) s ≡ rest (left - 1) 0 (t .line .0) s
   unfolding tableReach linesOf
   table-lines left at t s z e =
       let k : left ≡ suc (left - 1) = omega arith in
-      ap (λ (j : ℕ). writtenAt (tableReach im j at) s) k ∙ rw (← e)
+      ap (λ (j : ℕ). takenAt (tableReach im j at) s) k ∙ rw (← e)
+
+-- ---- the whole
+
+-- the sheet has the defaults, whatever the list
+sheet-taken : (fs : List Field) (t : Taken) → takeAll fs t .sheet ≡ defaultsWritten fs (t .sheet)
+unfolding takeAll takeOne defaultsWritten
+sheet-taken [] t = refl
+sheet-taken (f ∷ fs) t = sheet-taken fs (takeOne f t)
+
+pub defaults-taken : (fs : List Field) (s ps : List ℕ) (k : ℕ) {t qs : List ℕ} {r : ℕ} → taken t r qs ≡ takeAll fs (taken s k ps) → t ≡ defaultsWritten fs s
+defaults-taken fs s ps k e = ap (λ (x : Taken). x .sheet) e ∙ sheet-taken fs (taken s k ps)
+
+-- the places of fields
+abbrev placesOf : List Field → List ℕ
+placesOf fs = map (λ (f : Field). f .image .0) fs
+
+-- the list has the places of as many as there is room for
+places-taken : (fs : List Field) (s ps : List ℕ) (k : ℕ) → takeAll fs (taken s k ps) .places ≡ over ps k (placesOf fs)
+unfolding takeAll
+places-taken [] s ps k = sym (over-nil ps k)
+places-taken (f ∷ fs) s ps k =
+    by-test (k <? length ps)
+    (λ e. let h = ltb-true k (length ps) e in
+    let z : k + 1 ≡ suc k = omega arith in
+    ap (λ (x : Taken). takeAll fs x .places) (sym (one-taken f s ps k h refl))
+    ∙ places-taken fs (defaultWritten f s) (set ps k (f .image .0)) (k + 1) ∙ rw z (over-cons ps k (f .image .0) (placesOf fs) h))
+    (λ e. let h = ltb-false k (length ps) e in
+    ap (λ (x : Taken). takeAll fs x .places) (sym (one-dropped f s ps k h refl))
+    ∙ places-taken fs (defaultWritten f s) ps k ∙ over-out ps k (placesOf fs) h ∙ sym (over-out ps k (placesOf (f ∷ fs)) h))
+
+count-taken : (fs : List Field) (s ps : List ℕ) (k : ℕ) → k ≤ length ps → takeAll fs (taken s k ps) .count ≡ min (k + length (placesOf fs)) (length ps)
+unfolding takeAll
+count-taken [] s ps k h = omega (arith, min-eq-left {n = k + 0} {m = length ps} (omega arith))
+count-taken (f ∷ fs) s ps k h =
+    by-test (k <? length ps)
+    (λ e. let l = ltb-true k (length ps) e in
+    let z : k + 1 + length (placesOf fs) ≡ k + suc (length (placesOf fs)) = omega arith in
+    ap (λ (x : Taken). takeAll fs x .count) (sym (one-taken f s ps k l refl))
+    ∙ count-taken fs (defaultWritten f s) (set ps k (f .image .0)) (k + 1) (omega (arith, length-set ps k (f .image .0)))
+    ∙ rw (length-set ps k (f .image .0), z))
+    (λ e. let l = ltb-false k (length ps) e in
+    ap (λ (x : Taken). takeAll fs x .count) (sym (one-dropped f s ps k l refl))
+    ∙ count-taken fs (defaultWritten f s) ps k h
+    ∙ min-eq-right {n = length ps} {m = k + length (placesOf fs)} (omega arith)
+    ∙ sym (min-eq-right {n = length ps} {m = k + suc (length (placesOf fs))} (omega arith)))
+
+-- so a list of zeros is the fields' places
+pub list-taken : (fs : List Field) (s ps : List ℕ) (n : ℕ) {t qs : List ℕ} {r : ℕ} → ps ≡ fit 0 n [] → taken t r qs ≡ takeAll fs (taken s 0 ps)
+    → (r ≡ min (length (placesOf fs)) n) × (qs ≡ fit 0 n (placesOf fs))
+list-taken fs s ps n b e =
+    let l : length ps ≡ n = ap length b ∙ length-fit 0 n [] in
+    let z : 0 + length (placesOf fs) ≡ length (placesOf fs) = omega arith in (
+      ap (λ (x : Taken). x .count) e ∙ count-taken fs s ps 0 (omega arith) ∙ rw (l, z),
+      ap (λ (x : Taken). x .places) e ∙ places-taken fs s ps 0 ∙ rw b (over-blank 0 n (placesOf fs)),
+    )

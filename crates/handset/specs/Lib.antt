@@ -1,4 +1,5 @@
 pub mod Refusals
+pub mod Fields
 pub mod Open
 pub mod Event
 pub mod OptionText

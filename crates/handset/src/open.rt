@@ -3,7 +3,7 @@ ghost use mathlib.Core.Path.{_≡_};
 ghost use lib.ListN.{length};
 ghost use Rattle.session.specs.Session.{closed};
 ghost use Rattle.handset.specs.Open.{openAnswer, openSheet};
-use crate::defaults::write_defaults;
+use crate::fields::write_defaults;
 use crate::refusal::NO_SHAPE;
 use crate::refusal::refusal_of;
 use session::fits::shape_fits;
