@@ -25,7 +25,8 @@ impl Value {
         }
     }
 
-    fn byte(self, i: usize) -> u32
+    // The ith byte, 0 past the last.
+    pub fn byte(self, i: usize) -> u32
         ensures { λ r. ⌜ (r ≡ getD (bytesOf self) i 0) × (r < 256) ⌝ }
     {
         if i < self.len() {

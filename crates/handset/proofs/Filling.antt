@@ -7,21 +7,24 @@ use mathlib.Core.Bool.{Bool, true, false}
 use mathlib.Core.List.{List, [], _∷_, _++_, map}
 use native.Mathlib.Nat.{min-eq-left, min-eq-right}
 use native.Mathlib.Omega.{arith}
-use lib.ListN.{length, set, length-set}
+use lib.ListN.{length, set, length-set, length-map}
 use borrow.Author.Tests.{ltb-true, ltb-false}
-use Rattle.laws.specs.Choice.{if_then_else_, _<?_}
+use Rattle.laws.specs.Choice.{if_then_else_, _=?_, _<?_}
 use Rattle.laws.specs.Overwrite.{over, fit}
-use Rattle.laws.proofs.Cases.{by-test, if-lt, if-ge}
+use Rattle.laws.proofs.Cases.{by-test, if-eq, if-ne, if-lt, if-ge}
 use Rattle.laws.proofs.Overwriting.{over-nil, over-out, over-cons, over-blank, length-fit}
 use Rattle.field.specs.Sheet.{defaultWritten}
 use Rattle.field.specs.declared.record.Field.{Field}
 use Rattle.cmf.specs.Readers.{titleAt, headAt, componentAt}
-use Rattle.cmf.specs.Places.{linesFrom, linesOf, componentsFrom, componentsOf, restOfLine, heldBy, lineReach, linesReach, tableReach, fieldsAmong}
+use Rattle.cmf.specs.Places.{linesFrom, linesOf, componentsFrom, componentsOf, restOfLine, heldBy, lineReach, linesReach, tableReach, fieldsAmong, fieldsOf, fieldPlaces}
 use Rattle.cmf.specs.declared.title.Title.{Title}
 use Rattle.cmf.specs.declared.head.Head.{Head}
 use Rattle.cmf.specs.declared.component.Component.{Component}
+use Rattle.acceptance.specs.Check.{refusalOf}
+use Rattle.acceptance.proofs.Acceptance.{accepted-exactly-when-well-formed, fields-are}
 use Rattle.acceptance.proofs.Places.{among-join}
-use Rattle.handset.specs.Fields.{Taken, taken, takeOne, takeAll}
+use Rattle.handset.specs.Fields.{placesListed}
+use Rattle.handset.specs.Taking.{Taken, taken, takeOne, takeAll}
 use Rattle.handset.specs.Open.{defaultsWritten}
 
 taken-join : (fs gs : List Field) (s : Taken) → takeAll (fs ++ gs) s ≡ takeAll gs (takeAll fs s)
@@ -182,11 +185,31 @@ count-taken (f ∷ fs) s ps k h =
     ∙ sym (min-eq-right {n = length ps} {m = k + suc (length (placesOf fs))} (omega arith)))
 
 -- so a list of zeros is the fields' places
-pub list-taken : (fs : List Field) (s ps : List ℕ) (n : ℕ) {t qs : List ℕ} {r : ℕ} → ps ≡ fit 0 n [] → taken t r qs ≡ takeAll fs (taken s 0 ps)
-    → (r ≡ min (length (placesOf fs)) n) × (qs ≡ fit 0 n (placesOf fs))
-list-taken fs s ps n b e =
+list-taken : (fs : List Field) (s ps : List ℕ) (n : ℕ) {t qs : List ℕ} {r : ℕ} → ps ≡ fit 0 n [] → taken t r qs ≡ takeAll fs (taken s 0 ps) → length (placesOf fs) ≤ n
+    → (r ≡ length (placesOf fs)) × (qs ≡ fit 0 n (placesOf fs))
+list-taken fs s ps n b e few =
     let l : length ps ≡ n = ap length b ∙ length-fit 0 n [] in
     let z : 0 + length (placesOf fs) ≡ length (placesOf fs) = omega arith in (
-      ap (λ (x : Taken). x .count) e ∙ count-taken fs s ps 0 (omega arith) ∙ rw (l, z),
+      ap (λ (x : Taken). x .count) e ∙ count-taken fs s ps 0 (omega arith) ∙ rw (l, z) (min-eq-left {n = length (placesOf fs)} {m = n} few),
       ap (λ (x : Taken). x .places) e ∙ places-taken fs s ps 0 ∙ rw b (over-blank 0 n (placesOf fs)),
     )
+
+-- ---- the list of an image that is refused, and of one that is not
+
+module _ (im : List ℕ) (extent k : ℕ) (q : k ≡ refusalOf im extent) (ps : List ℕ) (b : ps ≡ fit 0 256 []) where
+  pub none-listed : (k ≡ 0 → ⊥) → (k ≡ refusalOf im extent) × ((0 ≡ length (placesListed im extent)) × (ps ≡ fit 0 256 (placesListed im extent)))
+  unfolding placesListed
+  none-listed h =
+      let e : (if refusalOf im extent =? 0 then fieldPlaces im else []) ≡ [] = if-ne _ 0 _ _ (λ z. h (q ∙ z)) in
+      (q, (ap length (sym e), b ∙ ap (fit 0 256) (sym e)))
+
+  pub all-listed : (s : List ℕ) {t qs : List ℕ} {r : ℕ} → (k ≡ 0) → taken t r qs ≡ takeAll (fieldsOf im) (taken s 0 ps)
+      → (0 ≡ refusalOf im extent) × ((r ≡ length (placesListed im extent)) × (qs ≡ fit 0 256 (placesListed im extent)))
+  unfolding placesListed
+  all-listed s h e =
+      let z : refusalOf im extent ≡ 0 = sym q ∙ h in
+      let w = accepted-exactly-when-well-formed im extent .0 z in
+      let few : length (fieldPlaces im) ≤ 256 = omega (arith, rw (fields-are im extent w) at (w .few-fields), length-map (fieldsOf im) (λ (f : Field). f .image .0)) in
+      let l = list-taken (fieldsOf im) s ps 256 b e few in
+      let i : (if refusalOf im extent =? 0 then fieldPlaces im else []) ≡ fieldPlaces im = if-eq _ 0 _ _ z in
+      (sym z, (l .0 ∙ ap length (sym i), l .1 ∙ ap (fit 0 256) (sym i)))

@@ -1,14 +1,16 @@
 // The fields of an image, in one walk over its tables, lines and components: each one's default is written to
-// a lent sheet, and its place is set in a lent list, as far as they have room. Open lends no list, and the
-// list of fields no sheet.
+// a lent sheet, and its place is set in a lent list, as far as they have room. Open lends no list, and
+// `list_fields` no sheet.
 ghost use mathlib.Core.Path.{_≡_};
-ghost use Prim.Native.Nat.{min};
 ghost use lib.ListN.{length};
 ghost use Rattle.laws.specs.Overwrite.{fit};
 ghost use Rattle.cmf.specs.Limits.{mostFields};
-ghost use Rattle.cmf.specs.Places.{restOfLine, heldBy, tableReach, fieldsAmong, fieldsOf, fieldPlaces};
-ghost use Rattle.handset.specs.Fields.{taken, takeOne, takeAll};
+ghost use Rattle.cmf.specs.Places.{restOfLine, heldBy, tableReach, fieldsAmong, fieldsOf};
+ghost use Rattle.acceptance.specs.Check.{refusalOf};
+ghost use Rattle.handset.specs.Fields.{placesListed};
+ghost use Rattle.handset.specs.Taking.{taken, takeOne, takeAll};
 ghost use Rattle.handset.specs.Open.{defaultsWritten};
+use crate::refusal::refusal_of;
 use cmf::component::Component;
 use cmf::component::read_component;
 use cmf::head::read_head;
@@ -16,8 +18,10 @@ use cmf::image::Image;
 use cmf::title::read_title;
 use field::record::Field;
 
-// The image places of an image's fields in the order of the walk, as many as `count`, and zeros after them.
+// The refusal number of an image, 0 for none, and the image places of its fields in the order of the walk, as
+// many as `count`, with zeros after them. An image that is refused has none.
 pub struct FieldList {
+    pub refusal: u8,
     pub count: usize,
     pub places: [usize; Image::MAX_FIELDS],
 }
@@ -127,13 +131,22 @@ pub(crate) fn write_defaults(image: &[u8], sheet: &mut [u8])
     );
 }
 
-// The fields of an image; of one that is not accepted, the first 256 that the walk reaches.
-pub fn list_fields(image: &[u8]) -> FieldList
-    ensures { λ r. ⌜ r .count ≡ min (length (fieldPlaces (now (image .entry)))) mostFields ⌝ }
-    ensures { λ r. ⌜ r .places ≡ fit 0 mostFields (fieldPlaces (now (image .entry))) ⌝ }
+// The fields of an image, for a sheet of so many bytes.
+pub fn list_fields(image: &[u8], extent: usize) -> FieldList
+    ensures { λ r. ⌜ r .refusal ≡ refusalOf (now (image .entry)) extent ⌝ }
+    ensures { λ r. ⌜ r .count ≡ length (placesListed (now (image .entry)) extent) ⌝ }
+    ensures { λ r. ⌜ r .places ≡ fit 0 mostFields (placesListed (now (image .entry)) extent) ⌝ }
 {
     let mut none = [0u8; 0];
     let mut places = [0usize; Image::MAX_FIELDS];
+    let refusal = refusal_of(image, extent);
+    if refusal != 0 {
+        return FieldList {
+            refusal,
+            count: 0,
+            places,
+        };
+    }
     let count = take_table(
         image,
         Image::MAX_DEPTH,
@@ -142,5 +155,9 @@ pub fn list_fields(image: &[u8]) -> FieldList
         0,
         &mut places,
     );
-    FieldList { count, places }
+    FieldList {
+        refusal: 0,
+        count,
+        places,
+    }
 }

@@ -13,12 +13,13 @@ use Rattle.laws.proofs.Cases.{by-test, if-true, if-false, if-eq, if-ne, and-i, 
 use Rattle.field.specs.Values.{bytesOf}
 use Rattle.field.specs.Sheet.{sizeOf}
 use Rattle.field.specs.declared.record.Field.{Field}
-use Rattle.cmf.specs.Grammar.{WellFormed}
+use Rattle.field.proofs.Apart.{LieApart}
+use Rattle.cmf.specs.Grammar.{Holds, WellFormed}
 use Rattle.cmf.specs.Places.{fieldPlaces, isIn}
 use Rattle.acceptance.specs.Check.{refusalOf}
 use Rattle.acceptance.proofs.Acceptance.{accepted-exactly-when-well-formed, fields-are}
 use Rattle.acceptance.proofs.Faulty.{refused-exactly-when}
-use Rattle.acceptance.proofs.Fields.{every-in, all-in-image}
+use Rattle.acceptance.proofs.Fields.{every-in, all-in-image, others-apart}
 use Rattle.session.specs.Events.{second}
 use Rattle.session.specs.Answers.{answerNumber}
 use Rattle.session.specs.Fits.{shapeFits, sessionFits}
@@ -44,12 +45,12 @@ use Rattle.journal.specs.Rules.{fieldAt, rulesOf, IsField, Beside}
 use Rattle.journal.specs.Sitting.{begunWith}
 use Rattle.promises.specs.Promises.{Promises}
 use Rattle.promises.specs.Demand1.{Demand1}
-use Rattle.promises.specs.Demand2.{Demand2}
+use Rattle.promises.specs.Demand2.{FieldPromises, Demand2}
 use Rattle.promises.specs.Demand3.{Demand3, Candidate, start, visitsAt, bytesAt}
 use Rattle.journal.proofs.Sittings.{formed, at-default, sheet-holds-journal, default-changed-by-own-visits, own-visits-finish}
 use Rattle.journal.proofs.Beside.{played-apart}
 use Rattle.protected.proofs.Protected.{only-after-its-digits, every-protected-line-was-opened-by-its-digits}
-use Rattle.promises.proofs.Unrefused.{never-refused}
+use Rattle.promises.proofs.Unrefused.{never-refused, opened-long, played-long}
 use Rattle.promises.proofs.Answering.{told-apart}
 use Rattle.promises.proofs.Lines.{cursors-agree}
 use Rattle.promises.proofs.Steps.{event-promises}
@@ -214,16 +215,31 @@ cursor-once Nowhere (At r c) h = let z : _≡_ {A = ℕ} 0 1 = cc in absurd (ome
 cursor-once (At r c) Nowhere h = let z : _≡_ {A = ℕ} 0 1 = cc in absurd (omega arith)
 cursor-once (At r c) (At q d) h = cc
 
+-- what a field of the derivation has
+field-promises : (im : List ℕ) (n : ℕ) (w : WellFormed im n) (f : Field) → List·Memᴰ f (w .fields) → FieldPromises im n w f
+field-promises im n w f m = record {
+  named = field-read im n w f m;
+  inside = every-in (w .inside) f m;
+  alone = λ g k x a b. not-apart g (others-apart im n w f g m k) a b;
+  sized = every-in (all-in-image im n w) f m .sized;
+}
+  where
+    not-apart : (g : Field) {x : ℕ} → (f ≡ g) ⊎ LieApart f g → Holds f x → Holds g x → f ≡ g
+    not-apart g (inl e) a b = e
+    not-apart g (inr (inl h)) a b = absurd (omega (arith, a .from, a .to, b .from, b .to))
+    not-apart g (inr (inr h)) a b = absurd (omega (arith, a .from, a .to, b .from, b .to))
+
 pub demand-2 : (im : List ℕ) → Demand2 im
 unfolding begunWith openAnswer eventAnswer
 demand-2 im = record {
-  accepts = record { accepted = accepted-exactly-when-well-formed im; open-accepts = open-well im; listed = fields-are im; every-field = field-read im };
+  accepts = record { accepted = accepted-exactly-when-well-formed im; open-accepts = open-well im; listed = fields-are im; every-field = field-promises im };
   reads = cursors-agree im;
   opens = λ sheet columns lines h. record {
     tells = h;
     shows = if-eq (openRefusal im (length sheet) columns lines) 0 _ _ h;
     defaults = at-default im sheet columns lines h;
     nothing-else = sheet-beside im sheet columns lines h;
+    sheet-length = opened-long im sheet columns lines h;
   };
   steps = λ sheet s e h. record {
     steps = sym (stepped im sheet s e _ refl h);
@@ -267,6 +283,7 @@ demand-3 im = record {
   beside = λ c from n b.
       played-apart im from n b (c .events) (start c)
       ∙ sheet-beside im (c .sheet) (c .columns) (c .lines) (c .accepted) from n b;
+  sheet-length = λ c. played-long im (c .sheet) (c .columns) (c .lines) (c .accepted) (c .events);
   never-refused = λ c. never-refused im (c .sheet) (c .columns) (c .lines) (c .accepted) (c .events);
 }
 

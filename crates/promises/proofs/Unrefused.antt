@@ -222,3 +222,12 @@ module _ (im sheet : List ℕ) (columns lines : ℕ) (accepted : openRefusal im 
   never-refused es =
       nothing-refused im columns lines shape (length sheet) image-accepted _
       (played-holds im columns lines shape (length sheet) image-accepted es (begunWith im sheet columns lines) begun-holds)
+
+  -- and the sheet keeps its length, from Open on
+  pub opened-long : length (openSheet im sheet columns lines) ≡ length sheet
+  unfolding begunWith
+  opened-long = begun-holds .long
+
+  pub played-long : (es : List ℕ) → length (played im (begunWith im sheet columns lines) es .sheet) ≡ length sheet
+  played-long es =
+      played-holds im columns lines shape (length sheet) image-accepted es (begunWith im sheet columns lines) begun-holds .long

@@ -8,9 +8,9 @@ use lib.ListN.{length, getD}
 use Rattle.laws.specs.Bytes.{byteAt}
 use Rattle.laws.specs.Parts.{partAt}
 use Rattle.field.specs.Values.{bytesOf}
-use Rattle.field.specs.Sheet.{ownBytes}
+use Rattle.field.specs.Sheet.{sizeOf, ownBytes}
 use Rattle.field.specs.declared.record.Field.{Field}
-use Rattle.cmf.specs.Grammar.{WellFormed}
+use Rattle.cmf.specs.Grammar.{InSheet, Holds, WellFormed}
 use Rattle.cmf.specs.Readers.{itemPlace}
 use Rattle.cmf.specs.Places.{fieldsOf}
 use Rattle.acceptance.specs.Check.{refusalOf}
@@ -33,6 +33,17 @@ use Rattle.promises.specs.Lines.{CursorsAgree}
 use Rattle.promises.specs.Steps.{EventPromises}
 use Rattle.promises.specs.Pictures.{DrawPromises}
 
+-- a field of a well-formed image, with a sheet of so many bytes
+pub record FieldPromises (im : List ℕ) (extent : ℕ) (w : WellFormed im extent) (f : Field) : Type 0 where
+  -- (theorem) it is what is read at its image place, so that what is promised of every `IsField` holds of it
+  pub named : (fieldAt im (f .image .0) ≡ f) × IsField im (f .image .0)
+  -- (by definition) its bytes lie in the sheet, which is not too long
+  pub inside : InSheet extent f
+  -- (theorem) none of them is also another field's
+  pub alone : (g : Field) → List·Memᴰ g (w .fields) → (x : ℕ) → Holds f x → Holds g x → f ≡ g
+  -- (theorem) its default has as many bytes as it has in the sheet
+  pub sized : length (bytesOf (f .default)) ≡ sizeOf f
+
 -- what is accepted
 pub record Accepts (im : List ℕ) : Type 0 where
   -- (theorem) an image is accepted, with a sheet of so many bytes, exactly when it is well formed
@@ -42,9 +53,9 @@ pub record Accepts (im : List ℕ) : Type 0 where
       → (openRefusal im extent columns lines ≡ 0) ↔ ((shapeFits columns lines ≡ true) × WellFormed im extent)
   -- (theorem) its fields are those at the places that the walk reaches, in the walk's order
   pub listed : (extent : ℕ) (w : WellFormed im extent) → w .fields ≡ fieldsOf im
-  -- (theorem) fields are named by their image places, and none is missed
+  -- where they lie, and their defaults
   pub every-field : (extent : ℕ) (w : WellFormed im extent) (f : Field) → List·Memᴰ f (w .fields)
-      → (fieldAt im (f .image .0) ≡ f) × IsField im (f .image .0)
+      → FieldPromises im extent w f
 
 -- an Open that is not refused
 pub record OpenDone (im sheet : List ℕ) (columns lines : ℕ) : Type 0 where
@@ -58,6 +69,8 @@ pub record OpenDone (im sheet : List ℕ) (columns lines : ℕ) : Type 0 where
   -- (theorem) and writes nothing else
   pub nothing-else : (from n : ℕ) → Beside im from n
       → partAt from n (openSheet im sheet columns lines) ≡ partAt from n sheet
+  -- (theorem) the sheet keeps its length
+  pub sheet-length : length (openSheet im sheet columns lines) ≡ length sheet
 
 -- an Event that is not refused
 pub record EventDone (im sheet : List ℕ) (s : Session) (e : ℕ) : Type 0 where

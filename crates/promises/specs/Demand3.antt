@@ -51,5 +51,7 @@ pub record Demand3 (im : List ℕ) : Type 0 where
   -- bytes of no field are as they were before Open
   pub beside : (c : Candidate im) (from n : ℕ) → Beside im from n
       → partAt from n (end c .sheet) ≡ partAt from n (c .sheet)
+  -- the sheet keeps its length
+  pub sheet-length : (c : Candidate im) → length (end c .sheet) ≡ length (c .sheet)
   -- no event 0 to 16, and no Draw of the right size, is refused on the way
   pub never-refused : (c : Candidate im) → NothingRefused im (c .columns) (c .lines) (end c)

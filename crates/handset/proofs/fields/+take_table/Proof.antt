@@ -4,7 +4,7 @@ use mathlib.Core.Logic.{⊎-elim}
 use lib.ListN.{length}
 use Rattle.laws.proofs.Cases.{if-true, if-false}
 use Rattle.cmf.specs.Places.{tableReach}
-use Rattle.handset.specs.Fields.{taken}
+use Rattle.handset.specs.Taking.{taken}
 use Rattle.handset.proofs.Filling.{taken-same, takenAt, rest, lines-last, lines-next, lines-done, table-none, table-lines}
 use borrow.Author.Needs.{needs}
 use Prim.Native.Nat.{ℕ, _-_, _<_}

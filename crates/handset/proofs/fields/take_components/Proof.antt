@@ -3,7 +3,7 @@ use Prim.Native.Nat.{_+_}
 use mathlib.Core.Path.{_≡_, sym, _∙_}
 use lib.ListN.{length}
 use Rattle.cmf.specs.Places.{componentsFrom}
-use Rattle.handset.specs.Fields.{taken}
+use Rattle.handset.specs.Taking.{taken}
 use Rattle.handset.proofs.Filling.{takenAt, components-last, components-next, components-done}
 use borrow.Author.Needs.{needs}
 use Rattle.handset.proofs.fields.take_components.Statement.{statement}

@@ -1,0 +1,4 @@
+pub mod Key
+pub mod Marking
+pub mod Table
+pub mod Promises
