@@ -1,3 +1,4 @@
 pub mod Answering
 pub mod Wide
 pub mod Calling
+pub mod Sums
