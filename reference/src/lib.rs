@@ -1,4 +1,5 @@
-//! An executor of CMF 0.4 menus, written from the papers: document 01, section 7 of document 001, and the readings R1 to R33.
+//! An executor of CMF 0.4 menus and the marker, written from the papers: document 01, section 7 of document 001, request No. 1 of
+//! document 02, and the readings R1 to R33 and R40 to R43.
 //! Clear rather than fast: each call walks the whole image, and all the rest works on the menu that the walk found.
 
 #![allow(clippy::large_enum_variant)]
@@ -12,6 +13,7 @@ pub mod keys;
 pub mod layout;
 #[cfg(feature = "library")]
 pub mod library;
+pub mod marker;
 pub mod picture;
 pub mod random;
 pub mod refusal;
@@ -21,5 +23,6 @@ pub mod vectors;
 pub mod walk;
 
 pub use calls::{draw, event, open, option_text};
+pub use marker::mark;
 pub use refusal::Refusal;
 pub use session::{Answer, Session};

@@ -1,6 +1,6 @@
-//! The refusal numbers of 01, each under the name of what is at fault.
+//! The refusal numbers of 01 and 02, each under the name of what is at fault.
 
-/// A number of 01's table "Refusal numbers"; `ACCEPTED` where none is given.
+/// A number of 01's table "Refusal numbers" or of a request of 02; `ACCEPTED` where none is given.
 pub type Refusal = u8;
 
 pub const ACCEPTED: Refusal = 0;
@@ -18,6 +18,10 @@ pub const SHARED_BYTE: Refusal = 11;
 pub const SESSION: Refusal = 12;
 pub const EVENT: Refusal = 13;
 pub const NO_ITEM: Refusal = 14;
+/// 02 No. 1.
+pub const KEY: Refusal = 15;
+/// A lent list is not of the length that a call needs.
+pub const ROOM: Refusal = 25;
 
 /// `Err` with this refusal where `fault` holds.
 pub fn refuse_if(fault: bool, refusal: Refusal) -> Result<(), Refusal> {
