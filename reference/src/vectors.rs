@@ -1,20 +1,23 @@
 //! The vectors' format: a case is a run of lines, each lending bytes or making a call, with '->' before what is expected.
 
 use crate::layout;
+use crate::marker::{mark_into, SUMS};
 use crate::session::{Answer, Session};
 use crate::{calls, Refusal};
 use std::ops::Range;
 
-/// What a line of a case does. `Session` forges one; it is no part of the shared format.
+/// What a line of a case does. `Session` forges one and `Sums` lends another number of sums; they are no part of the shared format.
 #[derive(Clone, Debug)]
 pub enum Step {
     Image(Vec<u8>),
     Sheet(Vec<u8>),
     Session(Vec<u8>),
+    Sums(usize),
     Open { columns: usize, lines: usize },
     Event(usize),
     Draw(usize),
     Text { place: usize, item: usize },
+    Mark(Vec<u16>),
 }
 
 /// What a call answers.
@@ -26,6 +29,8 @@ pub enum Outcome {
     /// The picture as it is afterwards, drawn or not.
     Drawn(Refusal, Vec<u8>, Option<(usize, usize)>),
     Text(Refusal, Range<usize>),
+    /// The lent sums as they are afterwards, written or not.
+    Marked(Refusal, Vec<u32>),
 }
 
 /// Whatever can play a case.
@@ -37,17 +42,27 @@ pub trait Executor {
 
 /// The lent picture is filled with this before a draw.
 pub const UNDRAWN: u8 = 0xAA;
+/// The lent sums hold this before a marking.
+pub const UNMARKED: u32 = 0xAAAA_AAAA;
 
 /// The reference with what is lent to it.
 pub struct Reference {
     pub image: Vec<u8>,
     pub sheet: Vec<u8>,
     pub session: Session,
+    /// How many sums are lent.
+    pub sums: usize,
 }
 
 impl Reference {
     pub fn new() -> Reference {
-        Reference { image: vec![], sheet: vec![], session: Session::closed() }
+        Reference { image: vec![], sheet: vec![], session: Session::closed(), sums: SUMS }
+    }
+
+    fn mark(&self, key: &[u16]) -> Outcome {
+        let mut sums = vec![UNMARKED; self.sums];
+        let refusal = mark_into(&self.image, &self.sheet, key, &mut sums);
+        Outcome::Marked(refusal, sums)
     }
 }
 
@@ -63,6 +78,7 @@ impl Executor for Reference {
             Step::Image(bytes) => self.image.clone_from(bytes),
             Step::Sheet(bytes) => self.sheet.clone_from(bytes),
             Step::Session(bytes) => self.session = layout::session_from_bytes(&layout::LAYOUT, bytes),
+            Step::Sums(count) => self.sums = *count,
             Step::Open { columns, lines } => {
                 let (refusal, session) = calls::open(&self.image, &mut self.sheet, *columns, *lines);
                 self.session = session;
@@ -82,6 +98,7 @@ impl Executor for Reference {
                 let (refusal, text) = calls::option_text(&self.image, &self.sheet, *place, *item);
                 return Outcome::Text(refusal, text);
             }
+            Step::Mark(key) => return self.mark(key),
         }
         Outcome::Lent
     }
@@ -113,10 +130,12 @@ pub fn read_line(line: &str) -> Option<(Entry, String)> {
         "image" => Entry::Step(Step::Image(from_hex(words.get(1)?)?)),
         "sheet" => Entry::Step(Step::Sheet(from_hex(words.get(1)?)?)),
         "session" => Entry::Step(Step::Session(from_hex(words.get(1)?)?)),
+        "sums" => Entry::Step(Step::Sums(number(1)?)),
         "open" => Entry::Step(Step::Open { columns: number(1)?, lines: number(2)? }),
         "event" => Entry::Step(Step::Event(number(1)?)),
         "draw" => Entry::Step(Step::Draw(number(1)?)),
         "text" => Entry::Step(Step::Text { place: number(1)?, item: number(2)? }),
+        "mark" => Entry::Step(Step::Mark(words[1..].iter().map(|word| word.parse().ok()).collect::<Option<_>>()?)),
         _ => return None,
     };
     Some((entry, expected.trim().to_string()))
@@ -128,10 +147,12 @@ pub fn write_line(step: &Step, outcome: &Outcome, image: &[u8]) -> String {
         Step::Image(bytes) => return format!("image {}", to_hex(bytes)),
         Step::Sheet(bytes) => return format!("sheet {}", to_hex(bytes)),
         Step::Session(bytes) => return format!("session {}", to_hex(bytes)),
+        Step::Sums(count) => return format!("sums {count}"),
         Step::Open { columns, lines } => format!("open {columns} {lines}"),
         Step::Event(event) => format!("event {event}"),
         Step::Draw(length) => format!("draw {length}"),
         Step::Text { place, item } => format!("text {place} {item}"),
+        Step::Mark(key) => numbered("mark", key),
     };
     format!("{call} -> {}", outcome_words(outcome, image))
 }
@@ -150,7 +171,14 @@ pub fn outcome_words(outcome: &Outcome, image: &[u8]) -> String {
         Outcome::Drawn(refusal, ..) => format!("{refusal} - - -"),
         Outcome::Text(0, text) => format!("0 {} {}", text.start, to_hex(&image[text.clone()])),
         Outcome::Text(refusal, _) => format!("{refusal} - -"),
+        Outcome::Marked(0, sums) => numbered("0", sums),
+        Outcome::Marked(refusal, _) => format!("{refusal} - - -"),
     }
+}
+
+/// A word and numbers behind it.
+fn numbered<T: ToString>(word: &str, numbers: &[T]) -> String {
+    numbers.iter().fold(word.to_string(), |line, number| line + " " + &number.to_string())
 }
 
 /// 0 taken, 1 flash, 65,536 + place finished, 131,072 + place fired, 16,777,216 + refusal.
