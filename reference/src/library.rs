@@ -1,8 +1,9 @@
-//! The executor's C library (handset.h) as something that plays cases. Only with the feature `library`.
+//! The executor's C library (handset.h, desk.h) as something that plays cases. Only with the feature `library`.
 
 use crate::layout;
+use crate::marker::SUMS;
 use crate::session::Answer;
-use crate::vectors::{Executor, Outcome, Step, UNDRAWN};
+use crate::vectors::{Executor, Outcome, Step, UNDRAWN, UNMARKED};
 
 /// HANDSET_SESSION_BYTES of the header, as build.rs read it.
 pub const SESSION_BYTES: &str = env!("HANDSET_SESSION_BYTES");
@@ -15,6 +16,8 @@ const FINISHED: u32 = 1 << 16;
 const FIRED: u32 = 1 << 17;
 /// Stands for a number that the header gives no meaning.
 const NO_ANSWER: u8 = u8::MAX;
+/// Numbers that stand behind the lent sums and must not be written.
+const BEHIND: usize = 4;
 
 extern "C" {
     fn handset_open(
@@ -54,6 +57,16 @@ extern "C" {
         place: usize,
         item: usize,
     ) -> u64;
+    fn handset_mark(
+        image: *const u8,
+        image_len: usize,
+        sheet: *const u8,
+        sheet_len: usize,
+        key: *const u16,
+        key_count: usize,
+        sums: *mut u32,
+        sums_count: usize,
+    ) -> u32;
 }
 
 /// The library with what is lent to it.
@@ -61,15 +74,25 @@ pub struct Library {
     image: Vec<u8>,
     sheet: Vec<u8>,
     pub session: Vec<u8>,
+    sums: usize,
     /// Set when a refused event changed the session's bytes.
     pub changed_when_refused: bool,
+    /// Set when a marking wrote behind the lent sums.
+    pub wrote_behind_sums: bool,
 }
 
 impl Library {
     pub fn new() -> Library {
         let bytes = SESSION_BYTES.parse().expect("a number");
         assert!(!layout::IS_DOCUMENTED || layout::LAYOUT.bytes == bytes, "the layout is not that of the header");
-        Library { image: vec![], sheet: vec![], session: vec![0; bytes], changed_when_refused: false }
+        Library {
+            image: vec![],
+            sheet: vec![],
+            session: vec![0; bytes],
+            sums: SUMS,
+            changed_when_refused: false,
+            wrote_behind_sums: false,
+        }
     }
 
     fn open(&mut self, columns: usize, lines: usize) -> Outcome {
@@ -141,6 +164,26 @@ impl Library {
         let start = (number / 65_536) as usize;
         Outcome::Text(0, start..start + (number % 65_536) as usize)
     }
+
+    fn mark(&mut self, key: &[u16]) -> Outcome {
+        let mut sums = vec![UNMARKED; self.sums + BEHIND];
+        // SAFETY: as in `open`.
+        let number = unsafe {
+            handset_mark(
+                self.image.as_ptr(),
+                self.image.len(),
+                self.sheet.as_ptr(),
+                self.sheet.len(),
+                key.as_ptr(),
+                key.len(),
+                sums.as_mut_ptr(),
+                self.sums,
+            )
+        };
+        self.wrote_behind_sums = sums[self.sums..] != [UNMARKED; BEHIND];
+        sums.truncate(self.sums);
+        Outcome::Marked(refusal_of(number), sums)
+    }
 }
 
 impl Default for Library {
@@ -151,9 +194,9 @@ impl Default for Library {
 
 /// 0, or 16,777,216 + refusal.
 fn refusal_of(number: u32) -> u8 {
-    match number {
-        0 => 0,
-        REFUSED.. => (number - REFUSED) as u8,
+    match number.checked_sub(REFUSED) {
+        None if number == 0 => 0,
+        Some(refusal @ 1..=254) => refusal as u8,
         _ => NO_ANSWER,
     }
 }
@@ -175,10 +218,12 @@ impl Executor for Library {
             Step::Image(bytes) => self.image.clone_from(bytes),
             Step::Sheet(bytes) => self.sheet.clone_from(bytes),
             Step::Session(bytes) => self.session.clone_from(bytes),
+            Step::Sums(count) => self.sums = *count,
             Step::Open { columns, lines } => return self.open(*columns, *lines),
             Step::Event(event) => return self.event(*event),
             Step::Draw(length) => return self.draw(*length),
             Step::Text { place, item } => return self.text(*place, *item),
+            Step::Mark(key) => return self.mark(key),
         }
         Outcome::Lent
     }

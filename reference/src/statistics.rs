@@ -1,6 +1,8 @@
-//! What sittings reached: refusals, answers, kinds visited, and the turns that are met seldom.
+//! What sittings reached: refusals, answers, kinds visited, questions marked, and the turns that are met seldom.
 
+use crate::image::Menu;
 use crate::keys::SECOND;
+use crate::marker::{questions, Fault, Question, Verdict};
 use crate::session::{Answer, Mode, Session};
 use crate::vectors::{Outcome, Reference, Step};
 use crate::walk::check;
@@ -46,6 +48,10 @@ pub struct Statistics {
     visits: BTreeMap<&'static str, [usize; 3]>,
     /// Events by how deep the table shown is.
     depths: [usize; 9],
+    /// Questions of accepted keys by what became of them.
+    verdicts: BTreeMap<&'static str, usize>,
+    /// Refused keys by the first cause met.
+    faults: BTreeMap<&'static str, usize>,
     turns: BTreeMap<&'static str, usize>,
 }
 
@@ -66,6 +72,13 @@ impl Statistics {
                 );
             }
             (Step::Event(event), Outcome::Answered(answer)) => self.event(*event, before, after, answer),
+            (Step::Mark(key), Outcome::Marked(refusal, sums)) => {
+                self.refusal("mark", *refusal);
+                self.turn_if(*refusal == 0 && sums.iter().all(|&sum| sum > 0), "marked with three sums above 0");
+                if let Ok(menu) = check(&after.image, after.sheet.len()) {
+                    self.key(&menu, &after.sheet, key);
+                }
+            }
             (Step::Session(_), _) => {
                 let fits = check(&after.image, after.sheet.len()).is_ok_and(|menu| after.session.fits(&menu));
                 self.turn_if(fits, "forged session fits");
@@ -89,6 +102,32 @@ impl Statistics {
             self.depths[before.levels.len()] += 1;
             self.visit_key(event, before, after, answer);
             self.turns_of(event, before, &after.session, answer);
+        }
+    }
+
+    /// Counts a key on an image that is accepted.
+    fn key(&mut self, menu: &Menu, sheet: &[u8], key: &[u16]) {
+        self.turn_if(key.is_empty(), "key of no numbers");
+        match questions(menu, key) {
+            Ok(questions) => questions.iter().for_each(|question| self.question(menu, sheet, question)),
+            Err(fault) => *self.faults.entry(fault_name(menu, sheet, fault)).or_default() += 1,
+        }
+    }
+
+    fn question(&mut self, menu: &Menu, sheet: &[u8], question: &Question) {
+        let name = match question.verdict(sheet) {
+            Verdict::Right => "right",
+            Verdict::Wrong => "wrong",
+            Verdict::Blank => "blank",
+        };
+        *self.verdicts.entry(name).or_default() += 1;
+        self.turn_if(question.points == 0, "question of no points");
+        self.turn_if(question.points == u8::MAX, "question of 255 points");
+        let fields = menu.fields();
+        if let Some((_, field)) = fields.iter().find(|(_, field)| field.sheet_bytes() == (question.place..question.place + 1)) {
+            self.turn_if(field.read(sheet).is_none(), "marked a byte out of range");
+            self.turn_if(!field.kind.in_range(&field.kind.load(&[question.right])), "right byte out of range");
+            self.turn_if(!field.edit, "marked a field that is not editable");
         }
     }
 
@@ -137,10 +176,26 @@ impl Statistics {
     }
 }
 
+/// A cause of refusal 15 in words; a wrong place by what stands there.
+fn fault_name(menu: &Menu, sheet: &[u8], fault: Fault) -> &'static str {
+    match fault {
+        Fault::Length => "length",
+        Fault::Place(place) if place >= sheet.len() => "place past the sheet",
+        Fault::Place(place) if menu.fields().iter().any(|(_, field)| field.sheet_bytes().contains(&place)) => {
+            "place in a wider field"
+        }
+        Fault::Place(_) => "place of no field",
+        Fault::Twice => "place twice",
+        Fault::RightOver255 => "right byte over 255",
+        Fault::RightIsDefault => "right byte is the default",
+        Fault::PointsOver255 => "points over 255",
+    }
+}
+
 impl fmt::Display for Statistics {
     fn fmt(&self, out: &mut fmt::Formatter) -> fmt::Result {
         writeln!(out, "{} sittings, {} steps", self.sittings, self.steps)?;
-        for call in ["open", "event", "draw", "option text"] {
+        for call in ["open", "event", "draw", "option text", "mark"] {
             let total: usize = self.refusals.iter().filter(|((other, _), _)| *other == call).map(|(_, times)| times).sum();
             let accepted = self.refusals.get(&(call, 0)).copied().unwrap_or(0);
             write!(out, "{call}: {total}, accepted {:.1} %; refused", 100.0 * accepted as f64 / total.max(1) as f64)?;
@@ -150,6 +205,8 @@ impl fmt::Display for Statistics {
             writeln!(out)?;
         }
         writeln!(out, "answers: {:?}", self.answers)?;
+        writeln!(out, "questions marked: {:?}", self.verdicts)?;
+        writeln!(out, "keys refused: {:?}", self.faults)?;
         writeln!(out, "events by depth of the table shown: {:?}", &self.depths[1..])?;
         writeln!(out, "keys in visits by kind (taken, flash, finished or fired):")?;
         for (name, [taken, flash, ended]) in &self.visits {

@@ -12,7 +12,7 @@ const PROGRESS: u64 = 20_000;
 
 /// The sittings of a run; sessions are forged where they can be compared.
 const fn plan(forging: bool) -> Plan {
-    Plan { forging, least_actions: 0, most_actions: 40, other_images: 5, wide: true }
+    Plan { forging, least_actions: 0, most_actions: 40, other_images: 5, wide: true, marking: true }
 }
 
 /// The arguments behind LIB or --dry.
@@ -167,7 +167,7 @@ mod against {
         if expected != got {
             let shown = match got {
                 Outcome::Text(0, text) if text.end > reference.image.len() => format!("{got:?}"),
-                Outcome::Drawn(refusal, ..) if *refusal > 0 => format!("{got:?}"),
+                Outcome::Drawn(refusal, ..) | Outcome::Marked(refusal, _) if *refusal > 0 => format!("{got:?}"),
                 _ => outcome_words(got, reference.image()),
             };
             return Some(format!("{step:?} -> {shown}"));
@@ -177,6 +177,9 @@ mod against {
         }
         if library.changed_when_refused {
             return Some("a refused event changed the session".to_string());
+        }
+        if library.wrote_behind_sums {
+            return Some("a marking wrote behind the lent sums".to_string());
         }
         let same = !layout::IS_DOCUMENTED || layout::session_from_bytes(&layout::LAYOUT, &library.session) == reference.session;
         (!same).then(|| format!("session {}", to_hex(&library.session)))

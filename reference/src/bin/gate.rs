@@ -11,7 +11,7 @@ use reference::vectors::{to_hex, Executor, Reference, Step};
 use reference::walk::check;
 use std::{fs, io};
 
-const PLAN: Plan = Plan { forging: false, least_actions: 10, most_actions: 40, other_images: 0, wide: false };
+const PLAN: Plan = Plan { forging: false, least_actions: 10, most_actions: 40, other_images: 0, wide: false, marking: false };
 const TEXT: u8 = 2;
 const PLAY: u8 = 5;
 

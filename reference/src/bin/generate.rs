@@ -8,7 +8,7 @@ use reference::vectors::{to_hex, write_line, Executor, Reference, Step};
 use std::io::{self, BufWriter, Write};
 use std::process::ExitCode;
 
-const PLAN: Plan = Plan { forging: false, least_actions: 10, most_actions: 30, other_images: 12, wide: false };
+const PLAN: Plan = Plan { forging: false, least_actions: 10, most_actions: 30, other_images: 12, wide: false, marking: true };
 
 /// Prints one case, with the sheet wherever a call changed it.
 fn print_case(out: &mut impl Write, seed: u64, number: u64, statistics: &mut Statistics) -> io::Result<()> {
@@ -43,7 +43,7 @@ fn main() -> io::Result<ExitCode> {
         print_case(&mut out, seed, number, &mut statistics)?;
     }
     eprint!("{statistics}");
-    for refusal in (1..=14).filter(|&refusal| statistics.refused(refusal) == 0) {
+    for refusal in (1..=15).filter(|&refusal| statistics.refused(refusal) == 0) {
         eprintln!("refusal {refusal} is not among them");
     }
     Ok(ExitCode::SUCCESS)

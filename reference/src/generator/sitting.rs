@@ -3,9 +3,11 @@
 
 use super::flaws::{contents, damaged, flawed, flawed_and_damaged, good, junk, Material};
 use super::forging::forged;
+use super::marking::any_key;
 use crate::fields::Kind;
 use crate::image::Menu;
 use crate::keys::*;
+use crate::marker::SUMS;
 use crate::random::Random;
 use crate::session::{Mode, Session, Visit, COLUMNS, LINES};
 use crate::vectors::{Reference, Step};
@@ -21,8 +23,10 @@ pub struct Plan {
     pub most_actions: usize,
     /// In how many of a thousand actions another image is lent.
     pub other_images: usize,
-    /// Whether columns, lines and events may be numbers that no byte holds.
+    /// Whether columns, lines and events may be numbers that no byte holds, and sums other than three.
     pub wide: bool,
+    /// Whether sheets are marked: now and then, and at the end.
+    pub marking: bool,
 }
 
 pub struct Sitting {
@@ -32,6 +36,8 @@ pub struct Sitting {
     waiting: VecDeque<Step>,
     /// How many more actions there are.
     left: usize,
+    /// Whether the sheet is still to be marked as the actions left it.
+    is_to_mark: bool,
     menu: Option<Menu>,
     menu_is_known: bool,
 }
@@ -55,20 +61,30 @@ impl Sitting {
         }
         waiting.push_back(Step::Open { columns, lines });
         let left = random.edgy(plan.least_actions as i64, plan.most_actions as i64) as usize;
-        Sitting { random, plan, material, waiting, left, menu: None, menu_is_known: false }
+        Sitting { random, plan, material, waiting, left, is_to_mark: plan.marking, menu: None, menu_is_known: false }
     }
 
     /// The next step, by what the steps before made of the reference.
     pub fn next(&mut self, reference: &Reference) -> Option<Step> {
         if self.waiting.is_empty() {
-            self.left = self.left.checked_sub(1)?;
-            self.act(reference);
+            self.go_on(reference);
         }
         let step = self.waiting.pop_front();
         if matches!(step, Some(Step::Image(_) | Step::Sheet(_))) {
             self.menu_is_known = false;
         }
         step
+    }
+
+    /// Acts, or marks the sheet as the last action left it.
+    fn go_on(&mut self, reference: &Reference) {
+        if self.left > 0 {
+            self.left -= 1;
+            self.act(reference);
+        } else if self.is_to_mark {
+            self.is_to_mark = false;
+            self.last_marks(reference);
+        }
     }
 
     /// Chooses one or more steps.
@@ -83,6 +99,9 @@ impl Sitting {
         let fits = self.menu.as_ref().is_some_and(|menu| reference.session.fits(menu));
         if self.random.below(1000) < self.plan.other_images {
             return self.other_image(reference);
+        }
+        if self.plan.marking && self.random.once_in(25) {
+            return self.mark(&reference.image, &reference.sheet);
         }
         match self.random.below(1000) {
             0..=599 if self.menu.is_some() && !fits => {
@@ -168,6 +187,29 @@ impl Sitting {
         let item = if self.random.once_in(10) { items + self.random.below(300) } else { self.random.below(items.max(1)) };
         let (place, item) = (far(&mut self.random, place), far(&mut self.random, item));
         self.waiting.push_back(Step::Text { place, item });
+    }
+
+    /// Marks by one key or several, seldom with other than three sums lent.
+    fn mark(&mut self, image: &[u8], sheet: &[u8]) {
+        for _ in 0..self.random.within(1, 3) {
+            let key = any_key(&mut self.random, image, sheet);
+            if self.plan.wide && self.random.once_in(12) {
+                let count = *self.random.pick(&[0, 1, 2, 4, 5]);
+                self.waiting.extend([Step::Sums(count), Step::Mark(key), Step::Sums(SUMS)]);
+            } else {
+                self.waiting.push_back(Step::Mark(key));
+            }
+        }
+    }
+
+    /// Marks the sheet as it was left; at times also one with other contents, where fewer answers are blank.
+    fn last_marks(&mut self, reference: &Reference) {
+        self.mark(&reference.image, &reference.sheet);
+        if self.random.chance(50) {
+            let sheet = contents(&mut self.random, reference.sheet.len());
+            self.waiting.push_back(Step::Sheet(sheet.clone()));
+            self.mark(&reference.image, &sheet);
+        }
     }
 
     /// The same length with other contents, seldom another length.
