@@ -1,10 +1,14 @@
 //! Writes the cases of the gate's program `vectors` with the reference's answers: `gate COUNT SEED FOLDER` writes FOLDER/stdin and
-//! FOLDER/stdout, in the form that tests/cases.py describes: lists of events played from Open on (op 5) and option texts (op 2).
+//! FOLDER/stdout, in the form that tests/cases.py describes: lists of events played from Open on (op 5), option texts (op 2), and
+//! markings of some of the sheets (op 7).
 
 use reference::calls::{draw, event, open, option_text};
 use reference::fields::Kind;
 use reference::generator::cases::compact_material;
+use reference::generator::flaws::Material;
+use reference::generator::marking::{answered, any_key};
 use reference::generator::sitting::{Plan, Sitting};
+use reference::mark;
 use reference::random::Random;
 use reference::session::Answer;
 use reference::vectors::{to_hex, Executor, Reference, Step};
@@ -14,6 +18,7 @@ use std::{fs, io};
 const PLAN: Plan = Plan { forging: false, least_actions: 10, most_actions: 40, other_images: 0, wide: false, marking: false };
 const TEXT: u8 = 2;
 const PLAY: u8 = 5;
+const MARK: u8 = 7;
 
 /// What the runner fills sheets and pictures with.
 const FILL: u8 = 0xEE;
@@ -29,7 +34,7 @@ struct Shape {
 
 /// The shape and the events of a sitting on this image and sheet, up to a step that is neither an event nor only looks.
 fn planned(random: Random, image: &[u8], sheet: &[u8]) -> (Shape, Vec<u8>) {
-    let material = reference::generator::flaws::Material { image: image.to_vec(), sheet: sheet.to_vec() };
+    let material = Material { image: image.to_vec(), sheet: sheet.to_vec() };
     let mut sitting = Sitting::on(random, PLAN, material);
     let mut reference = Reference::new();
     let mut shape = Shape { columns: 20, lines: 4 };
@@ -70,34 +75,76 @@ fn hex(bytes: &[u8]) -> String {
     }
 }
 
-/// What the runner prints for a sitting.
-fn played(image: &[u8], sheet_length: usize, shape: &Shape, events: &[u8]) -> String {
-    let mut sheet = vec![FILL; sheet_length];
-    let (refusal, mut session) = open(image, &mut sheet, shape.columns, shape.lines);
+/// What the runner prints for a sitting that begins with this sheet.
+fn played(image: &[u8], sheet: &mut [u8], shape: &Shape, events: &[u8]) -> String {
+    let (refusal, mut session) = open(image, sheet, shape.columns, shape.lines);
     let mut words = vec![refusal.to_string()];
     for &number in events {
-        let (next, answer) = event(image, &mut sheet, &session, usize::from(number));
+        let (next, answer) = event(image, sheet, &session, usize::from(number));
         session = next;
         words.push(token(&answer));
     }
-    words.push(hex(&sheet));
+    words.push(hex(sheet));
     let mut picture = vec![FILL; shape.columns * shape.lines];
-    let (refusal, cursor) = draw(image, &sheet, &session, &mut picture);
+    let (refusal, cursor) = draw(image, sheet, &session, &mut picture);
     words.push(refusal.to_string());
     words.push(cursor.map_or("-".to_string(), |(row, column)| format!("{row},{column}")));
     words.push(hex(&picture));
     words.join(" ")
 }
 
-/// A case as the runner reads it.
-fn record(op: u8, name: &str, image: &[u8], numbers: [usize; 3]) -> Vec<u8> {
-    let mut bytes = vec![op, name.len() as u8];
-    bytes.extend(name.as_bytes());
-    for number in [image.len(), numbers[0], numbers[1], numbers[2]] {
-        bytes.extend((number as u16).to_le_bytes());
+/// What the runner prints for a marking.
+fn marked(image: &[u8], sheet: &[u8], key: &[u16]) -> String {
+    match mark(image, sheet, key) {
+        Ok(sums) => format!("0 {} {} {}", sums.right, sums.wrong, sums.blank),
+        Err(refusal) => refusal.to_string(),
     }
-    bytes.extend(image);
-    bytes
+}
+
+/// Two-byte numbers, low byte first.
+fn low_first(numbers: &[u16]) -> Vec<u8> {
+    numbers.iter().flat_map(|number| number.to_le_bytes()).collect()
+}
+
+/// What is written: cases as the runner reads them, and what it prints.
+#[derive(Default)]
+struct Cases {
+    stdin: Vec<u8>,
+    stdout: String,
+}
+
+impl Cases {
+    /// `numbers` are sheet length, place and item; `tail` is what follows the image.
+    fn add(&mut self, op: u8, name: &str, image: &[u8], numbers: [usize; 3], tail: &[u8], answer: &str) {
+        self.stdin.extend([op, name.len() as u8]);
+        self.stdin.extend(name.as_bytes());
+        self.stdin.extend(low_first(&[image.len(), numbers[0], numbers[1], numbers[2]].map(|number| number as u16)));
+        self.stdin.extend(image);
+        self.stdin.extend(tail);
+        self.stdout += &format!("{name}: {answer}\n");
+    }
+
+    /// A sitting; `sheet` is left as it leaves it.
+    fn add_play(&mut self, name: &str, image: &[u8], sheet: &mut [u8], shape: &Shape, events: &[u8]) {
+        let answer = played(image, sheet, shape, events);
+        let tail = [&low_first(&[events.len() as u16]), events].concat();
+        self.add(PLAY, name, image, [sheet.len(), shape.columns, shape.lines], &tail, &answer);
+    }
+
+    fn add_texts(&mut self, random: &mut Random, name: &str, image: &[u8], sheet_length: usize) {
+        for (place, item) in asked(random, image, sheet_length) {
+            let (refusal, part) = option_text(image, &vec![FILL; sheet_length], place, item);
+            self.add(TEXT, name, image, [sheet_length, place, item], &[], &format!("{refusal} {}", hex(&image[part])));
+        }
+    }
+
+    /// A marking of the sheet that a sitting left, mostly with other answers in it.
+    fn add_mark(&mut self, mut random: Random, name: &str, image: &[u8], left: &[u8]) {
+        let sheet = if random.chance(30) { left.to_vec() } else { answered(&mut random, left) };
+        let key = any_key(&mut random, image, &sheet);
+        let tail = [&sheet, &low_first(&[key.len() as u16])[..], &low_first(&key)].concat();
+        self.add(MARK, name, image, [sheet.len(), 0, 0], &tail, &marked(image, &sheet, &key));
+    }
 }
 
 /// Places and items to ask for: options, another field, and any place.
@@ -111,6 +158,11 @@ fn asked(random: &mut Random, image: &[u8], sheet_length: usize) -> Vec<(usize, 
     places.into_iter().map(|place| (place, random.below(3))).collect()
 }
 
+/// Some of the good images, which have even numbers, and one of each flaw.
+fn is_marked(number: u64) -> bool {
+    number.is_multiple_of(8) || number % 2 == 1 && (28..54).contains(&number)
+}
+
 fn main() -> io::Result<()> {
     let words: Vec<String> = std::env::args().skip(1).collect();
     let [count, seed, folder] = &words[..] else {
@@ -121,7 +173,7 @@ fn main() -> io::Result<()> {
         eprintln!("gate COUNT SEED FOLDER");
         return Ok(());
     };
-    let (mut stdin, mut stdout) = (Vec::new(), String::new());
+    let mut cases = Cases::default();
     for number in 0..count {
         let mut random = Random::of_sitting(seed, number);
         let (about, material) = compact_material(&mut random, number);
@@ -130,21 +182,18 @@ fn main() -> io::Result<()> {
         if image.len() > usize::from(u16::MAX) {
             continue;
         }
-        let (shape, events) = planned(Random::of_sitting(seed, number + count), image, &vec![FILL; length]);
+        let mut sheet = vec![FILL; length];
+        let (shape, events) = planned(Random::of_sitting(seed, number + count), image, &sheet);
         if shape.columns > 255 || shape.lines > 255 || shape.columns * shape.lines > LARGEST_PICTURE {
             continue;
         }
         let name = format!("{about}-{number}");
-        stdin.extend(record(PLAY, &name, image, [length, shape.columns, shape.lines]));
-        stdin.extend((events.len() as u16).to_le_bytes());
-        stdin.extend(&events);
-        stdout += &format!("{name}: {}\n", played(image, length, &shape, &events));
-        for (place, item) in asked(&mut random, image, length) {
-            let (refusal, part) = option_text(image, &vec![FILL; length], place, item);
-            stdin.extend(record(TEXT, &name, image, [length, place, item]));
-            stdout += &format!("{name}: {refusal} {}\n", hex(&image[part]));
+        cases.add_play(&name, image, &mut sheet, &shape, &events);
+        cases.add_texts(&mut random, &name, image, length);
+        if is_marked(number) {
+            cases.add_mark(Random::of_sitting(seed, number + 2 * count), &name, image, &sheet);
         }
     }
-    fs::write(format!("{folder}/stdin"), stdin)?;
-    fs::write(format!("{folder}/stdout"), stdout)
+    fs::write(format!("{folder}/stdin"), cases.stdin)?;
+    fs::write(format!("{folder}/stdout"), cases.stdout)
 }

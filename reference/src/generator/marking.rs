@@ -1,6 +1,7 @@
 //! Keys to mark a sheet by: good ones mostly, about some of the image's one-byte fields in any order, else with one of the causes
 //! that 02 No. 1 lists.
 
+use super::flaws::contents;
 use crate::fields::{Field, Kind};
 use crate::image::{word, LONGEST_SHEET};
 use crate::marker::{HIGHEST, NUMBERS};
@@ -73,6 +74,12 @@ fn key_of(random: &mut Random, paper: &Paper) -> Vec<u16> {
             questions.concat()
         }
     }
+}
+
+/// A sheet with about half of its bytes changed, so that answers are right, wrong and blank by one key.
+pub fn answered(random: &mut Random, sheet: &[u8]) -> Vec<u8> {
+    let others = contents(random, sheet.len());
+    sheet.iter().zip(others).map(|(&left, other)| if random.chance(50) { left } else { other }).collect()
 }
 
 /// Numbers for an image that is refused whatever the key is.

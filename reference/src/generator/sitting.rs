@@ -3,7 +3,7 @@
 
 use super::flaws::{contents, damaged, flawed, flawed_and_damaged, good, junk, Material};
 use super::forging::forged;
-use super::marking::any_key;
+use super::marking::{answered, any_key};
 use crate::fields::Kind;
 use crate::image::Menu;
 use crate::keys::*;
@@ -202,11 +202,11 @@ impl Sitting {
         }
     }
 
-    /// Marks the sheet as it was left; at times also one with other contents, where fewer answers are blank.
+    /// Marks the sheet as it was left, at times also with other answers in it.
     fn last_marks(&mut self, reference: &Reference) {
         self.mark(&reference.image, &reference.sheet);
         if self.random.chance(50) {
-            let sheet = contents(&mut self.random, reference.sheet.len());
+            let sheet = answered(&mut self.random, &reference.sheet);
             self.waiting.push_back(Step::Sheet(sheet.clone()));
             self.mark(&reference.image, &sheet);
         }
