@@ -1,5 +1,6 @@
 // Runs the cases that standard input holds, and prints a line for each: its name and what the calls answer. A
 // program over it has its cases in its `stdin`, and in its `stdout` the lines that the gate compares.
+mod marking;
 mod playing;
 
 use field::kind::ImagePlace;
@@ -17,7 +18,7 @@ use session_bytes::read::read_session;
 use walk::check::check;
 
 // A case: check an image, ask for an option's text, open an image on a sheet of bytes 0xEE, draw a session on
-// a picture of bytes 0xEE, play a list of events from Open on, or step a session by one event.
+// a picture of bytes 0xEE, play a list of events from Open on, step a session by one event, or mark a sheet.
 const CHECK: u8 = 1;
 
 const TEXT: u8 = 2;
@@ -30,6 +31,8 @@ const PLAY: u8 = 5;
 
 const STEP: u8 = 6;
 
+const MARK: u8 = 7;
+
 // The longest picture that a case can have.
 const PICTURE: usize = 256;
 
@@ -41,10 +44,14 @@ fn read_start(buffer: &mut [u8], count: usize) {
 }
 
 // Two bytes of the input as a number.
-fn read_number() -> usize {
+fn read_word() -> u16 {
     let mut bytes = [0u8; 2];
     io::read_full(STDIN_FILENO, &mut bytes);
-    word_at(&bytes, 0) as usize
+    word_at(&bytes, 0)
+}
+
+fn read_number() -> usize {
+    read_word() as usize
 }
 
 // The session that the input gives, as `session_bytes` lays it out.
@@ -175,6 +182,7 @@ fn run(op: u8, image: &[u8], sheet: &mut [u8], place: usize, item: usize) {
         DRAW => run_draw(image, sheet),
         PLAY => playing::run_play(image, sheet, (place % 256) as u8, (item % 256) as u8),
         STEP => playing::run_step(image, sheet),
+        MARK => marking::run_mark(image, sheet),
         _ => (),
     }
 }
