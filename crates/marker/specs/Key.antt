@@ -1,5 +1,5 @@
--- 02, No. 1: a key. Each question is three of its numbers: where its byte is in the sheet, which byte is right,
--- and how many points it is worth.
+-- 02, No. 1: a key. Each question is three of its numbers: where its byte is in the sheet, which byte is
+-- right, and how many points it is worth.
 use Prim.Native.Nat.{ℕ}
 use mathlib.Core.List.{List, [], _∷_}
 use lib.ListN.{getD}

@@ -1,6 +1,6 @@
 -- What is promised of the marker, over the definitions that the contract of `mark` cites. `proofs/Promises`
--- proves it from the executor's promises alone: which fields an image has, their bytes and their defaults, and
--- demand 3. Each clause has a mark, as in `promises`: (theorem), or (by definition).
+-- proves it from the executor's promises alone: which fields an image has, their bytes and their defaults,
+-- and demand 3. Each clause has a mark, as in `promises`: (theorem), or (by definition).
 use Prim.Native.Nat.{ℕ, _+_, _*_, _%_, _≤_, _<_}
 use mathlib.Core.Path.{_≡_}
 use mathlib.Core.Logic.{_≢_, _↔_}
@@ -30,8 +30,8 @@ use Rattle.marker.specs.declared.mark.Marked.the-variants as marks
 
 -- ---- one-byte fields
 
--- R41: the kinds with one byte in the sheet: an integer that is not wide (`formatOf`: dd, ddd, hh, sdd, sddd),
--- and an option
+-- R41: the kinds with one byte in the sheet: an integer that is not wide (`formatOf`: dd, ddd, hh, sdd,
+-- sddd), and an option
 pub data OneByte : Kind → Type 0 where
   integer : (f : Format) → f .wide ≡ false → OneByte (Integer f)
   option : (items longest : ℕ) → OneByte (Option items longest)
@@ -143,8 +143,8 @@ pub record MarkerPromises (im : List ℕ) : Type 0 where
   pub unread : (s t key : List ℕ) → length s ≡ length t
       → ((q : Question) → List·Memᴰ q (questionsOf key) → byteAt s (q .place .0) ≡ byteAt t (q .place .0))
       → marked im s key ≡ marked im t key
-  -- (theorem) with demand 3: two candidates whose finished visits are the same at each field of the key have the
-  -- same marks; what they did elsewhere, and when, has no say
+  -- (theorem) with demand 3: two candidates whose finished visits are the same at each field of the key have
+  -- the same marks; what they did elsewhere, and when, has no say
   pub candidates : (key : List ℕ) (a b : Candidate im)
       → ((q : Question) (f : Field) → List·Memᴰ q (questionsOf key) → ByteFieldAt im (q .place .0) f
       → visitsAt a (f .image .0) ≡ visitsAt b (f .image .0))

@@ -55,8 +55,8 @@ fn mark_on(image: &[u8], sheet: &[u8], key: &mut [u16], count: usize) {
     }
 }
 
-// The input goes on with the sheet's bytes and the key, its count of numbers before it: the sums, after a 0, or
-// the refusal.
+// The input goes on with the sheet's bytes and the key, its count of numbers before it: the sums, after a 0,
+// or the refusal.
 pub fn run_mark(image: &[u8], sheet: &mut [u8]) {
     io::read_full(STDIN_FILENO, &mut *sheet);
     let count = read_word() as usize;
