@@ -7,7 +7,7 @@ use mathlib.Core.List.{List, []}
 use native.Mathlib.Omega.{arith}
 use lib.ListN.{length, getD, take, length-map, List·getD-eq-default}
 use borrow.Author.Tests.{ltb-true, ltb-false, eq-eqb, ne-eqb}
-use Rattle.laws.specs.Choice.{if_then_else_, _=?_, _<?_}
+use Rattle.laws.specs.Choice.{if_then_else_, _<?_}
 use Rattle.laws.specs.Overwrite.{fit}
 use Rattle.laws.proofs.Cases.{by-test, if-true, if-false, if-eq, if-ne, and-r, and-true, and-false}
 use Rattle.laws.proofs.Overwriting.{length-fit, fit-at, take-fit}
@@ -49,22 +49,21 @@ module _ (im : List ℕ) (extent : ℕ) (z : refusalOf im extent ≡ 0) where
   unfolding keyFits
   few-points key h = omega (arith, few-open, points-open (fieldsOf im) (questionsOf key) [] (withFields (fieldsOf im) zeros) knows-all (and-r _ _ h))
 
-  -- the list of fields is read back
-  pub list-read : (count : ℕ) (places : List ℕ) → count ≡ length (placesListed im extent) → places ≡ fit 0 256 (placesListed im extent)
-      → fieldsRead im (take count places) ≡ fieldsOf im
+  -- the list of fields has them all
+  listed : placesListed im extent ≡ fieldPlaces im
   unfolding placesListed
-  list-read count places c p =
-      let i : (if refusalOf im extent =? 0 then fieldPlaces im else []) ≡ fieldPlaces im = if-eq _ 0 _ _ z in
-      let l : length (fieldPlaces im) ≤ 256 = omega (arith, few-fields im extent z, length-map (fieldsOf im) (λ (f : Field). f .image .0)) in
-      ap (fieldsRead im) (rw (p, c, i) (take-fit 0 256 (length (fieldPlaces im)) (fieldPlaces im) refl l)) ∙ fields-read im extent z
+  listed = if-eq _ 0 _ _ z
 
-  -- and has room for its count
-  pub list-room : (count : ℕ) (places : List ℕ) → count ≡ length (placesListed im extent) → places ≡ fit 0 256 (placesListed im extent) → count ≤ length places
-  unfolding placesListed
-  list-room count places c p =
-      let i : (if refusalOf im extent =? 0 then fieldPlaces im else []) ≡ fieldPlaces im = if-eq _ 0 _ _ z in
-      let l : length (fieldPlaces im) ≤ 256 = omega (arith, few-fields im extent z, length-map (fieldsOf im) (λ (f : Field). f .image .0)) in
-      omega (arith, c ∙ ap length i, ap length p, length-fit 0 256 (placesListed im extent))
+  few-places : length (fieldPlaces im) ≤ 256
+  few-places = omega (arith, few-fields im extent z, length-map (fieldsOf im) (λ (f : Field). f .image .0))
+
+  module _ (count : ℕ) (places : List ℕ) (c : count ≡ length (placesListed im extent)) (p : places ≡ fit 0 256 (placesListed im extent)) where
+    -- they are read back from it, and it has room for its count
+    pub list-read : fieldsRead im (take count places) ≡ fieldsOf im
+    list-read = ap (fieldsRead im) (rw (p, c, listed) (take-fit 0 256 (length (fieldPlaces im)) (fieldPlaces im) refl few-places)) ∙ fields-read im extent z
+
+    pub list-room : count ≤ length places
+    list-room = omega (arith, c ∙ ap length listed, ap length p, length-fit 0 256 (placesListed im extent), few-places)
 
 -- ---- the answers of the call
 
