@@ -3,7 +3,7 @@
 use crate::show::show;
 use crate::words::print_answer;
 use crate::words::print_key;
-use crate::words::say;
+use console::words::say;
 use handset::event::event;
 use session::session::Session;
 

@@ -2,17 +2,22 @@
 // sheet of zeros, plays the keys of a file or of standard input, and prints pictures, answers and at the end
 // the bytes of each field.
 mod fields;
-mod file;
 mod keys;
 mod show;
 mod words;
 
 use cmf::image::Image;
+use console::file::found_in;
+use console::file::open_named;
+use console::file::read_named;
+use console::words::say_refusal;
 use handset::open::open;
 use libc::STDIN_FILENO;
 
 // One byte more than an image may have, so that a longer file is refused.
 const ROOM: usize = Image::MAX_BYTES + 1;
+
+const USAGE: [u8; 28] = *b"usage: sitting IMAGE [KEYS]\n";
 
 // Plays the keys of a descriptor on an image, and prints what comes of it.
 fn sit(image: &[u8], fd: i32) {
@@ -20,7 +25,7 @@ fn sit(image: &[u8], fd: i32) {
     let opened = open(image, &mut sheet, show::COLUMNS, show::LINES);
     let session = opened.session;
     if opened.refusal != 0 {
-        words::say_refusal(opened.refusal);
+        say_refusal(opened.refusal);
         fields::print_reach(image, sheet.len(), opened.refusal);
         return;
     }
@@ -29,24 +34,17 @@ fn sit(image: &[u8], fd: i32) {
     fields::print_fields(image, &sheet);
 }
 
-// The same on the start of a buffer.
-fn sit_on(image: &[u8], length: usize, fd: i32) {
-    if length <= image.len() {
-        sit(&image[..length], fd);
-    }
-}
-
 // The keys come from the file that the second argument names, or from standard input without one.
 fn keys_from() -> i32 {
     if os::arg_count() < 3 {
         return STDIN_FILENO;
     }
-    file::open_named(2)
+    open_named(2, &USAGE)
 }
 
 fn main() {
     let mut image = [0u8; ROOM];
-    let found = file::read_named(1, &mut image);
+    let found = read_named(1, &mut image, &USAGE);
     if !found.whole {
         return;
     }
@@ -54,5 +52,5 @@ fn main() {
     if fd < 0 {
         return;
     }
-    sit_on(&image, found.count, fd);
+    sit(found_in(&image, found), fd);
 }

@@ -1,8 +1,8 @@
 // The display in a frame. In a visit the cursor line has a line below it, outside the frame, with '^' under
 // the cell that the edit cursor is on.
-use crate::words::say;
-use crate::words::say_plain;
-use crate::words::say_refusal;
+use console::words::say;
+use console::words::say_plain;
+use console::words::say_refusal;
 use handset::draw::draw;
 use picture::cursor::EditCursor;
 use session::session::Session;

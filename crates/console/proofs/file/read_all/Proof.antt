@@ -4,8 +4,8 @@ use Prim.Native.Nat.{_-_, _≤_}
 use mathlib.Core.Path.{_≡_}
 use lib.ListN.{length}
 use borrow.Author.Needs.{needs}
-use Rattle.sitting.proofs.file.read_all.Statement.{statement}
-use Rattle.sitting.proofs.file.read_all.Tie as tie
+use Rattle.console.proofs.file.read_all.Statement.{statement}
+use Rattle.console.proofs.file.read_all.Tie as tie
 
 abbrev Inv-loop : tie.InvT-loop
 Inv-loop fd name buffer₀ count₀ buffer count = (count ≤ length buffer) × (length buffer ≡ length buffer₀)

@@ -3,8 +3,8 @@ use native.Mathlib.Omega.{arith}
 use Prim.Native.Nat.{_-_, _≤_}
 use lib.ListN.{length}
 use borrow.Author.Needs.{needs}
-use Rattle.sitting.proofs.words.say_plain.Statement.{statement}
-use Rattle.sitting.proofs.words.say_plain.Tie as tie
+use Rattle.console.proofs.words.say_plain.Statement.{statement}
+use Rattle.console.proofs.words.say_plain.Tie as tie
 
 abbrev Inv-loop : tie.InvT-loop
 Inv-loop bytes i₀ i = i ≤ length bytes

@@ -16,16 +16,17 @@ fn open(name: &[u8]) -> i32 {
     fd
 }
 
-fn say_usage() {
-    io::write_all(STDERR_FILENO, b"usage: sitting IMAGE [KEYS]\n");
+// A usage line is said where an argument is missing.
+fn say_usage(usage: &[u8]) {
+    io::write_all(STDERR_FILENO, usage);
 }
 
 // Opens the file that argument i names.
-pub fn open_named(i: usize) -> i32 {
+pub fn open_named(i: usize, usage: &[u8]) -> i32 {
     let mut name = io::buffer();
     let length = os::arg(i, &mut name);
     if os::errno() != 0 {
-        say_usage();
+        say_usage(usage);
         return -1;
     }
     open(&name[..length])
@@ -69,12 +70,21 @@ fn read(name: &[u8], buffer: &mut [u8]) -> Found {
 }
 
 // Reads the file that argument i names.
-pub fn read_named(i: usize, buffer: &mut [u8]) -> Found {
+pub fn read_named(i: usize, buffer: &mut [u8], usage: &[u8]) -> Found {
     let mut name = io::buffer();
     let length = os::arg(i, &mut name);
     if os::errno() != 0 {
-        say_usage();
+        say_usage(usage);
         return failed();
     }
     read(&name[..length], &mut *buffer)
+}
+
+// What was found, at the start of a buffer.
+pub fn found_in<'a>(buffer: &'a [u8], found: Found) -> &'a [u8] {
+    let count = found.count;
+    if count <= buffer.len() {
+        return &buffer[0..count];
+    }
+    &buffer[0..0]
 }
