@@ -1,9 +1,10 @@
-/* A plain C menu executor for CMF 0.4: the four calls of handset.h, written for speed.
+/* A plain C menu executor for CMF 0.4: the four calls of handset.h and the marker of desk.h, written for speed.
  *
- * plain_check.c has the format and the check (refusals 2 to 11), plain_draw.c the picture; here are the values of fields, the
- * session and whether it fits, keys and seconds, and the calls. A place is an offset into the image. Build: gcc -O2 -c plain.c
+ * plain_check.c has the format and the check (refusals 2 to 11), plain_draw.c the picture, plain_mark.c the marker; here are the
+ * values of fields, the session and whether it fits, keys and seconds, and the calls. A place is an offset into the image.
+ * Build: gcc -O2 -c plain.c
  */
-#include "../include/handset.h"
+#include "../include/desk.h"
 
 #include <stdbool.h>
 #include <string.h>
@@ -578,3 +579,7 @@ uint64_t handset_option_text(const uint8_t *image, size_t image_len, const uint8
     }
     return HANDSET_TEXT_REFUSED + NO_ITEM;
 }
+
+/* ---- The marker: handset_mark ---- */
+
+#include "plain_mark.c"
