@@ -1,20 +1,27 @@
-/* Plays keys on an image at 20 x 4 with a sheet of 4,096 bytes, and draws after each event:  drive IMAGE KEYS ROUNDS
- * Prints for each call how often it was made and the nanoseconds that it took on average, and a sum over answers, pictures and the
- * last sheet, which libraries that agree have in common. Linked with a library that has the calls of handset.h.
+/* Plays keys on an image at 20 x 4 with a sheet of 4,096 bytes, draws after each event, and at the end marks the sheet by KEY, a
+ * file of two-byte numbers, low byte first:  drive IMAGE KEYS ROUNDS KEY
+ * Prints for each call how often it was made and the nanoseconds that it took on average, the last marking's answer, and a sum over
+ * answers, pictures, markings and the last sheet, which libraries that agree have in common. Linked with a library that has the
+ * calls of desk.h.
  */
 #define _POSIX_C_SOURCE 199309L
-#include "../include/handset.h"
+#include "../include/desk.h"
 
 #include <stdio.h>
 #include <stdlib.h>
 #include <string.h>
 #include <time.h>
 
-enum { COLUMNS = 20, LINES = 4, OPEN = 0, EVENT = 1, DRAW = 2 };
+enum { COLUMNS = 20, LINES = 4 };
+enum { OPEN, EVENT, DRAW, MARK, CALLS };
 
+static const char *const names[CALLS] = {"open", "event", "draw", "mark"};
 static uint8_t image[32768], sheet[4096], session[HANDSET_SESSION_BYTES], picture[COLUMNS * LINES];
 static char keys[65536];
-static unsigned long long spent[3], calls[3];
+static uint16_t key[65536];
+static uint32_t sums[HANDSET_SUMS], marked, sum;
+static size_t image_len, keys_len, key_count;
+static unsigned long long spent[CALLS], calls[CALLS];
 
 static size_t load(const char *path, void *to, size_t most)
 {
@@ -27,6 +34,16 @@ static size_t load(const char *path, void *to, size_t most)
     return n;
 }
 
+static size_t load_key(const char *path)
+{
+    static uint8_t bytes[2 * 65536];
+    size_t count = load(path, bytes, sizeof bytes) / 2;
+
+    for (size_t i = 0; i < count; i++)
+        key[i] = (uint16_t)(bytes[2 * i] | bytes[2 * i + 1] << 8);
+    return count;
+}
+
 static unsigned long long now(void)
 {
     struct timespec t;
@@ -35,44 +52,61 @@ static unsigned long long now(void)
     return (unsigned long long)t.tv_sec * 1000000000u + (unsigned long long)t.tv_nsec;
 }
 
+static void add(uint32_t number)
+{
+    sum = sum * 31 + number;
+}
+
 static uint32_t done(int call, unsigned long long began, uint32_t answer)
 {
     spent[call] += now() - began;
     calls[call]++;
+    add(answer);
     return answer;
+}
+
+static void play(uint32_t event)
+{
+    unsigned long long began = now();
+
+    done(EVENT, began, handset_event(image, image_len, sheet, sizeof sheet, session, sizeof session, event));
+    began = now();
+    done(DRAW, began, handset_draw(image, image_len, sheet, sizeof sheet, session, sizeof session, picture, sizeof picture));
+    for (size_t k = 0; k < sizeof picture; k++)
+        add(picture[k]);
+}
+
+static void sit(void)
+{
+    static const char events[] = "0123456789.udlres";
+    unsigned long long began = now();
+
+    done(OPEN, began, handset_open(image, image_len, sheet, sizeof sheet, COLUMNS, LINES, session, sizeof session));
+    for (size_t i = 0; i < keys_len; i++) {
+        const char *event = keys[i] ? strchr(events, keys[i]) : NULL;
+
+        if (event)
+            play((uint32_t)(event - events));
+    }
+    began = now();
+    marked = done(MARK, began, handset_mark(image, image_len, sheet, sizeof sheet, key, key_count, sums, HANDSET_SUMS));
+    for (size_t k = 0; k < HANDSET_SUMS; k++)
+        add(sums[k]);
 }
 
 int main(int argc, char **argv)
 {
-    static const char events[] = "0123456789.udlres";
-    size_t image_len, keys_len;
-    int rounds;
-    uint32_t sum = 0;
-
-    if (argc < 4)
+    if (argc < 5)
         return 2;
     image_len = load(argv[1], image, sizeof image);
     keys_len = load(argv[2], keys, sizeof keys);
-    for (rounds = atoi(argv[3]); rounds > 0; rounds--) {
-        unsigned long long began = now();
-
-        sum = sum * 31 + done(OPEN, began, handset_open(image, image_len, sheet, sizeof sheet, COLUMNS, LINES, session, sizeof session));
-        for (size_t i = 0; i < keys_len; i++) {
-            const char *event = keys[i] ? strchr(events, keys[i]) : NULL;
-
-            if (!event)
-                continue;
-            began = now();
-            sum = sum * 31 + done(EVENT, began, handset_event(image, image_len, sheet, sizeof sheet, session, sizeof session, (uint32_t)(event - events)));
-            began = now();
-            sum = sum * 31 + done(DRAW, began, handset_draw(image, image_len, sheet, sizeof sheet, session, sizeof session, picture, sizeof picture));
-            for (size_t k = 0; k < sizeof picture; k++)
-                sum = sum * 31 + picture[k];
-        }
-    }
+    key_count = load_key(argv[4]);
+    for (int rounds = atoi(argv[3]); rounds > 0; rounds--)
+        sit();
     for (size_t k = 0; k < sizeof sheet; k++)
-        sum = sum * 31 + sheet[k];
-    printf("open %llu %llu event %llu %llu draw %llu %llu sum %08x\n", calls[OPEN], spent[OPEN] / calls[OPEN], calls[EVENT],
-           spent[EVENT] / calls[EVENT], calls[DRAW], spent[DRAW] / calls[DRAW], sum);
+        add(sheet[k]);
+    for (int call = 0; call < CALLS; call++)
+        printf("%s %llu %llu ", names[call], calls[call], calls[call] ? spent[call] / calls[call] : 0);
+    printf("marked %lu sum %08lx\n", (unsigned long)marked, (unsigned long)sum);
     return 0;
 }

@@ -1,6 +1,8 @@
-//! The reference's side of bench/run: plays keys on an image as bench/drive.c does, `drive IMAGE KEYS ROUNDS`, and prints the same.
+//! The reference's side of bench/run: plays keys on an image and marks the sheet as bench/drive.c does, `drive IMAGE KEYS ROUNDS KEY`,
+//! and prints the same.
 
 use reference::calls::{draw, event, open};
+use reference::marker::{mark_into, SUMS};
 use reference::session::Answer;
 use std::time::Instant;
 use std::{fs, io};
@@ -48,9 +50,12 @@ fn main() -> io::Result<()> {
     let image = fs::read(&words[1])?;
     let keys = fs::read(&words[2])?;
     let rounds: usize = words[3].parse().unwrap_or(1);
+    let key: Vec<u16> = fs::read(&words[4])?.as_chunks().0.iter().map(|&bytes| u16::from_le_bytes(bytes)).collect();
     let mut sheet = vec![0; 4096];
     let mut picture = vec![0; COLUMNS * LINES];
-    let mut clocks = [Clock::default(), Clock::default(), Clock::default()];
+    let mut sums = [0; SUMS];
+    let mut marked = 0;
+    let mut clocks: [Clock; 4] = Default::default();
     let mut sum = 0u32;
     let mut add = |number: u32| sum = sum.wrapping_mul(31).wrapping_add(number);
     for _ in 0..rounds {
@@ -65,9 +70,12 @@ fn main() -> io::Result<()> {
             add(cursor.map_or(refused(refusal), |(row, column)| (1 << 16) + 256 * row as u32 + column as u32));
             picture.iter().for_each(|&byte| add(u32::from(byte)));
         }
+        marked = refused(clocks[3].time(|| mark_into(&image, &sheet, &key, &mut sums)));
+        add(marked);
+        sums.iter().for_each(|&number| add(number));
     }
     sheet.iter().for_each(|&byte| add(u32::from(byte)));
-    let [o, e, d] = clocks.map(|clock| format!("{} {}", clock.calls, clock.nanoseconds / clock.calls.max(1)));
-    println!("open {o} event {e} draw {d} sum {sum:08x}");
+    let [o, e, d, m] = clocks.map(|clock| format!("{} {}", clock.calls, clock.nanoseconds / clock.calls.max(1)));
+    println!("open {o} event {e} draw {d} mark {m} marked {marked} sum {sum:08x}");
     Ok(())
 }
