@@ -5,8 +5,7 @@ ghost use lib.ListN.{length};
 ghost use Rattle.laws.specs.Bytes.{byteAt};
 ghost use Rattle.cmf.specs.Limits.{mostFields};
 ghost use Rattle.marker.specs.Key.{questionsOf};
-ghost use Rattle.marker.specs.Marking.{mostPoints, verdictOf, markRefusal, marked};
-ghost use Rattle.marker.specs.Marking.{refusalIn};
+ghost use Rattle.marker.specs.Marking.{mostPoints, verdictOf, markRefusal, marked, refusalIn};
 ghost use Rattle.marker.specs.Table.{openIn, fitsBy, noPoints, sumIn, counted, markedBy};
 use crate::key::Question;
 use crate::key::question_at;
@@ -79,8 +78,8 @@ impl Tally {
     }
 }
 
-// Whether a question fits, by the number of its place in the table: a one-byte field is there that was not
-// named before, right byte and points are bytes, and the right byte is not the default.
+// Whether a question fits, by the number of its place in the table: a one-byte field is there that no question
+// was about before, right byte and points are bytes, and the right byte is not the default.
 fn fits(q: Question, number: u16) -> bool
     ensures { λ r. ⌜ r ≡ fitsBy number q ⌝ }
 {

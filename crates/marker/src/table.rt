@@ -24,7 +24,8 @@ fn enter(table: &mut [u16], f: Field)
     }
 }
 
-// Enters the fields at the first count of a list of image places, the last of them first.
+// Enters the fields at the first count of a list of image places. The last comes first, so that of two at one
+// place the first would count.
 pub(crate) fn enter_all(image: &[u8], places: &[usize], count: usize, table: &mut [u16])
     requires { ⌜ count ≤ length (now places) ⌝ }
     ensures { λ _. ⌜ now (table .exit)
