@@ -50,5 +50,4 @@ if __name__ == '__main__':
     for name, img in IMAGES.items():
         (folder / (name + '.cmf')).write_bytes(img)
         (folder / (name + '.key')).write_bytes(key(img, img.comps))
-    # the sample's one-byte fields are laid out in the walk's order, since its top table, which the walk leaves for others, has none
     (folder / 'sample.key').write_bytes(key(PAPER.image(), PAPER.fields))

@@ -15,9 +15,10 @@ extern "C" {
 /* The sums of handset_mark: points right, wrong and blank. */
 #define HANDSET_SUMS 3
 
-/* Marks a sheet by a key of key_count numbers, three to a question: the place of its byte in the sheet, the right byte, the points.
- * A byte that is still its field's default is blank. 0 with the three sums in `sums`, or a refusal: 2 to 11 for image and sheet, 15 for
- * a key that does not fit the image's one-byte fields, 25 where `sums` has not room for exactly three. */
+/* Marks a sheet by a key. Three of its key_count numbers make a question: where its byte is in the sheet, which byte is right, and what
+ * it is worth. A byte that is still its field's default is blank. 0 with the three sums in `sums`, or a refusal: 2 to 11 for image and
+ * sheet; 15 for a key that ends inside a question or has one that does not fit (no one-byte field at its place, a place asked before,
+ * right byte or points over 255, the default as right byte); 25, found last, where sums_count is not HANDSET_SUMS. */
 uint32_t handset_mark(const uint8_t *image, size_t image_len, const uint8_t *sheet, size_t sheet_len, const uint16_t *key,
                       size_t key_count, uint32_t *sums, size_t sums_count);
 

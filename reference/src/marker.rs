@@ -1,4 +1,4 @@
-//! The marker (02 No. 1, R40 to R43): scores a sheet by a key, a list of two-byte numbers with three to a question.
+//! The marker (02 No. 1, R40 to R43): marks a sheet by a key, of whose numbers three make a question.
 
 use crate::fields::Field;
 use crate::image::Menu;

@@ -21,6 +21,6 @@ unfoldable pub markedSums : List ℕ → List ℕ → List ℕ → List ℕ → 
 markedSums im sheet key sums =
     if sumsRefusal im (length sheet) key (length sums) =? 0 then sumsIn (marked im sheet key) else sums
 
--- the number of room of the wrong length
+-- what is answered for room of the wrong length
 abbrev pub refusedRoom : ℕ
 refusedRoom = refusedFrom + 25

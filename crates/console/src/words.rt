@@ -47,7 +47,9 @@ fn say_meaning(number: u8) {
         12 => say(b"the session does not belong to this image"),
         13 => say(b"there is no such event"),
         14 => say(b"no option field is there, or it has no such item"),
-        15 => say(b"the key does not fit the paper's fields"),
+        15 => say(
+            b"the key ends inside a question, or has one that does not fit the image's fields",
+        ),
         _ => say(b"no meaning"),
     }
 }

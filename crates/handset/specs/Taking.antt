@@ -8,21 +8,21 @@ use Rattle.field.specs.Sheet.{defaultWritten}
 use Rattle.field.specs.declared.record.Field.{Field}
 
 -- a sheet, and a list of places with the first count of them set
-pub record Taken : Type 0 where
+pub record Gathered : Type 0 where
   pub sheet : List ℕ
   pub count : ℕ
   pub places : List ℕ
 
-abbrev pub taken : List ℕ → ℕ → List ℕ → Taken
-taken s k ps = record { sheet = s; count = k; places = ps }
+abbrev pub gathered : List ℕ → ℕ → List ℕ → Gathered
+gathered s k ps = record { sheet = s; count = k; places = ps }
 
 -- a field: its default is written, and its place is the list's next, as long as there is room
-unfoldable pub takeOne : Field → Taken → Taken
-takeOne f t = taken (defaultWritten f (t .sheet))
+unfoldable pub takeOne : Field → Gathered → Gathered
+takeOne f t = gathered (defaultWritten f (t .sheet))
     (if t .count <? length (t .places) then t .count + 1 else t .count)
     (if t .count <? length (t .places) then set (t .places) (t .count) (f .image .0) else t .places)
 
 -- fields one after another
-unfoldable pub takeAll : List Field → Taken → Taken
+unfoldable pub takeAll : List Field → Gathered → Gathered
 takeAll [] t = t
 takeAll (f ∷ fs) t = takeAll fs (takeOne f t)

@@ -8,7 +8,7 @@ ghost use Rattle.cmf.specs.Limits.{mostFields};
 ghost use Rattle.cmf.specs.Places.{restOfLine, heldBy, tableReach, fieldsAmong, fieldsOf};
 ghost use Rattle.acceptance.specs.Check.{refusalOf};
 ghost use Rattle.handset.specs.Fields.{placesListed};
-ghost use Rattle.handset.specs.Taking.{taken, takeOne, takeAll};
+ghost use Rattle.handset.specs.Taking.{gathered, takeOne, takeAll};
 ghost use Rattle.handset.specs.Open.{defaultsWritten};
 use crate::refusal::refusal_of;
 use cmf::component::Component;
@@ -28,8 +28,8 @@ pub struct FieldList {
 
 // Takes a field, with k places in the list before it; how many are in it then.
 fn take_field(f: Field, sheet: &mut [u8], k: usize, places: &mut [usize]) -> usize
-    ensures { λ r. ⌜ taken (now (sheet .exit)) r (now (places .exit))
-        ≡ takeOne f (taken (now (sheet .entry)) k (now (places .entry))) ⌝ }
+    ensures { λ r. ⌜ gathered (now (sheet .exit)) r (now (places .exit))
+        ≡ takeOne f (gathered (now (sheet .entry)) k (now (places .entry))) ⌝ }
 {
     f.write_default(&mut *sheet);
     if k < places.len() {
@@ -42,8 +42,8 @@ fn take_field(f: Field, sheet: &mut [u8], k: usize, places: &mut [usize]) -> usi
 
 // The same with a component, if it is a field.
 fn take_component(c: Component, sheet: &mut [u8], k: usize, places: &mut [usize]) -> usize
-    ensures { λ r. ⌜ taken (now (sheet .exit)) r (now (places .exit))
-        ≡ takeAll (heldBy c) (taken (now (sheet .entry)) k (now (places .entry))) ⌝ }
+    ensures { λ r. ⌜ gathered (now (sheet .exit)) r (now (places .exit))
+        ≡ takeAll (heldBy c) (gathered (now (sheet .entry)) k (now (places .entry))) ⌝ }
 {
     if c.fielded {
         let field = c.field;
@@ -60,9 +60,9 @@ fn take_components(
     k: usize,
     places: &mut [usize],
 ) -> usize
-    ensures { λ r. ⌜ taken (now (sheet .exit)) r (now (places .exit))
+    ensures { λ r. ⌜ gathered (now (sheet .exit)) r (now (places .exit))
         ≡ takeAll (fieldsAmong (now (image .entry)) (restOfLine (now (image .entry)) p))
-        (taken (now (sheet .entry)) k (now (places .entry))) ⌝ }
+        (gathered (now (sheet .entry)) k (now (places .entry))) ⌝ }
 {
     let mut count = k;
     let mut c = p;
@@ -88,9 +88,9 @@ fn take_table(
     k: usize,
     places: &mut [usize],
 ) -> usize
-    ensures { λ r. ⌜ taken (now (sheet .exit)) r (now (places .exit))
+    ensures { λ r. ⌜ gathered (now (sheet .exit)) r (now (places .exit))
         ≡ takeAll (fieldsAmong (now (image .entry)) (tableReach (now (image .entry)) left at))
-        (taken (now (sheet .entry)) k (now (places .entry))) ⌝ }
+        (gathered (now (sheet .entry)) k (now (places .entry))) ⌝ }
 {
     if left == 0 {
         return k;

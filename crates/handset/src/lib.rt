@@ -1,4 +1,4 @@
-// The public calls of the menu executor.
+// The public calls of the menu executor, and the list of an image's fields.
 pub mod draw;
 pub mod event;
 pub mod fields;

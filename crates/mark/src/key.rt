@@ -1,4 +1,7 @@
 // A key as the bytes of a file: two-byte numbers, low byte first.
+ghost use mathlib.Core.Path.{_≡_};
+ghost use Rattle.acceptance.specs.Check.{refusalOf};
+ghost use Rattle.handset.specs.Refusals.{_before_};
 use crate::report::report;
 use cmf::image::Image;
 use console::words::say_refusal;
@@ -15,7 +18,7 @@ const MOST: usize = 3 * (Image::MAX_FIELDS + 1);
 // The bytes of a key that are read.
 pub const ROOM: usize = 2 * MOST;
 
-// The ith number of a key, counted from 0; 0 past the last.
+// The ith number of a key, counted from 0; 0 past the last. The test keeps the place from overflowing.
 fn number_at(bytes: &[u8], i: usize) -> u16 {
     if i < bytes.len() / 2 {
         return word_at(bytes, 2 * i);
@@ -32,14 +35,15 @@ fn read_numbers(bytes: &[u8], numbers: &mut [u16]) {
     }
 }
 
-// A key that ends inside a number does not fit; the refusals of image and sheet come first.
-fn refuse(image: &[u8], extent: usize) {
+// The refusal of a key that ends inside a number: it does not fit; those of image and sheet come first.
+fn odd_refusal(image: &[u8], extent: usize) -> u8
+    ensures { λ r. ⌜ r ≡ refusalOf (now (image .entry)) extent before 15 ⌝ }
+{
     let refusal = refusal_of(image, extent);
     if refusal != 0 {
-        say_refusal(refusal);
-        return;
+        return refusal;
     }
-    say_refusal(NO_KEY);
+    NO_KEY
 }
 
 fn mark_by_numbers(image: &[u8], sheet: &[u8], key: &[u16]) {
@@ -64,7 +68,7 @@ fn mark_by_first(image: &[u8], sheet: &[u8], numbers: &[u16], count: usize) {
 // Marks a sheet by the bytes of a key, and prints what comes of it.
 pub fn mark_by(image: &[u8], sheet: &[u8], bytes: &[u8]) {
     if bytes.len() % 2 != 0 {
-        refuse(image, sheet.len());
+        say_refusal(odd_refusal(image, sheet.len()));
         return;
     }
     let mut numbers = [0u16; MOST];

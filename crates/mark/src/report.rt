@@ -7,22 +7,12 @@ use console::words::say;
 use console::words::say_number;
 use field::kind::ImagePlace;
 use field::kind::SheetPlace;
-use field::profile::profile_of;
-use field::record::Field;
 use handset::fields::list_fields;
 use laws::byte_at;
 use marker::key::Question;
+use marker::key::is_byte_at;
 use marker::key::question_at;
 use marker::verdict::Verdict;
-
-// Whether a field has one byte, and it lies at a place of the sheet.
-fn is_at(f: Field, place: SheetPlace) -> bool {
-    let kind = f.kind;
-    if profile_of(kind).bytes == 1 {
-        return f.sheet.0 == place.0;
-    }
-    false
-}
 
 // The image place of the one-byte field at a place of the sheet, among the image places of fields.
 fn field_among(image: &[u8], places: &[usize], place: SheetPlace) -> Found {
@@ -31,7 +21,7 @@ fn field_among(image: &[u8], places: &[usize], place: SheetPlace) -> Found {
         let at = places[i];
         let component = read_component(image, at);
         let field = component.field;
-        let here = is_at(field, place);
+        let here = is_byte_at(field, place);
         if here {
             return Found::At(ImagePlace(at));
         }

@@ -32,7 +32,7 @@ placesOf qs = map (λ (q : Question). q .place .0) qs
 module _ (im : List ℕ) (extent : ℕ) (z : refusalOf im extent ≡ 0) where
   -- ---- one question, after those at earlier places
 
-  -- the default is a byte that the field's default is
+  -- a right byte that is the default is a fault
   right-default : (q : Question) → hasField (q .place .0) (fieldsOf im) ≡ true → (q .right =? defaultAt (q .place .0) (fieldsOf im)) ≡ true → QuestionFault im q
   right-default q n h =
       let m = field-exactly im (q .place .0) .0 n in

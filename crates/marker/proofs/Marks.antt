@@ -25,9 +25,9 @@ use Rattle.marker.proofs.Tables.{numberAt, at-taken-out, open-less}
 
 -- ---- a question that fits by its number fits
 
--- the number of a place that was named before, or is no field's, or has a default
+-- the number of a place that came before, or is no field's, or has a default
 abbrev number : Bool → Bool → ℕ → ℕ
-number before named d = if before then 0 else (if named then d + 1 else 0)
+number before found d = if before then 0 else (if found then d + 1 else 0)
 
 fits-none : (q : Question) → fitsBy 0 q ≡ false
 unfolding fitsBy
@@ -46,8 +46,8 @@ fits-some d q =
     (λ f. if-ne (q .right + 1) (d + 1) _ _ (λ g. eqb-false (q .right) d f (omega arith))
     ∙ sym (and-true _ (le-leb (q .right) 255 (ltb-false 255 (q .right) e)) ∙ and-true _ (ap not f))))
 
-fits-same : (before named : Bool) (d : ℕ) (q : Question)
-    → fitsBy (number before named d) q ≡ named and (not before and ((q .right ≤? 255) and (not (q .right =? d) and (q .points ≤? 255))))
+fits-same : (before found : Bool) (d : ℕ) (q : Question)
+    → fitsBy (number before found d) q ≡ found and (not before and ((q .right ≤? 255) and (not (q .right =? d) and (q .points ≤? 255))))
 unfolding if_then_else_ _and_
 fits-same true true d q = fits-none q
 fits-same true false d q = fits-none q
@@ -76,7 +76,7 @@ module _ (fs : List Field) where
   }
 
   module _ (earlier t : List ℕ) (q : Question) (k : Knows earlier t) where
-    pub fits-known : fitsBy (getD t (q .place .0) 0) q ≡ questionFits fs earlier q
+    fits-known : fitsBy (getD t (q .place .0) 0) q ≡ questionFits fs earlier q
     unfolding questionFits
     fits-known =
         ap (λ (n : ℕ). fitsBy n q) (k .at (q .place .0))
@@ -164,7 +164,7 @@ points-open fs (q ∷ qs) earlier t k h =
       points-open fs qs (q .place .0 ∷ earlier) (setAt (q .place .0) 0 t) (knows-next fs earlier t (q .place .0) k) (and-r _ _ h),
     )
 
-pub counted-sum : (v : Verdict) (n : ℕ) (y : Tally) → sumIn (counted v n y) ≡ sumIn y + n
+counted-sum : (v : Verdict) (n : ℕ) (y : Tally) → sumIn (counted v n y) ≡ sumIn y + n
 unfolding counted sumIn
 counted-sum verdict.Right n y = omega arith
 counted-sum verdict.Wrong n y = omega arith

@@ -94,10 +94,11 @@ module _ (im : List ℕ) where
     pub promised : (f : Field) → List·Memᴰ f (fieldsOf im) → FieldPromises im extent formed f
     promised f m = demand-2 im .accepts .every-field extent formed f (rw (demand-2 im .accepts .listed extent formed) m)
 
-    -- the field at a place is the only one there
+    -- its byte is at p
     holds : (p : ℕ) (f : Field) → isByteAt p f ≡ true → Holds f p
     holds p f h = let a = is-at p f h in record { from = omega (arith, a .0); to = omega (arith, a .0, a .1) }
 
+    -- the field at a place is the only one there
     pub default-is : (p : ℕ) (f : Field) → ByteFieldAt im p f → bytesOf (f .default) ≡ defaultAt p (fieldsOf im) ∷ []
     default-is p f n =
         let h = at-is p f (n .place) (n .one) in

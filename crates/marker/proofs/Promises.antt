@@ -20,7 +20,7 @@ use Rattle.field.specs.declared.kind.Kind.the-variants.{Integer, Counter, Time,
 use Rattle.field.specs.declared.record.Field.{Field}
 use Rattle.cmf.specs.Places.{isIn, fieldsOf}
 use Rattle.acceptance.specs.Check.{refusalOf}
-use Rattle.handset.specs.Refusals.{_before_, _unless_}
+use Rattle.handset.specs.Refusals.{_before_}
 use Rattle.handset.specs.Open.{openRefusal, openSheet}
 use Rattle.promises.specs.Demand3.{Candidate, end, visitsAt}
 use Rattle.promises.proofs.Promises.{demand-2, demand-3}
@@ -32,7 +32,7 @@ use Rattle.marker.specs.declared.verdict.Verdict.{Verdict}
 use Rattle.marker.specs.declared.verdict.Verdict.the-variants as verdict
 use Rattle.marker.specs.declared.mark.Marked.the-variants as marks
 use Rattle.marker.proofs.Naming.{field-exactly, default-is, promised}
-use Rattle.marker.proofs.Starts.{few-points, by-key}
+use Rattle.marker.proofs.Starts.{few-points, refused-order, by-key}
 use Rattle.marker.proofs.Faults as faults
 
 -- ---- kinds
@@ -105,7 +105,7 @@ module _ (fs : List Field) where
       (λ e. rw (if-true (q .points) 0 e, if-true (pointsIn qs) 0 e, if-true (q .points + pointsIn qs) 0 e))
       (λ e. rw (if-false (q .points) 0 e, if-false (pointsIn qs) 0 e, if-false (q .points + pointsIn qs) 0 e) (omega arith))
 
-  -- each place of a key that fits is named
+  -- a one-byte field is at each place of a key that fits
   each-has : (earlier : List ℕ) (qs : List Question) → questionsFit fs earlier qs ≡ true → (q : Question) → List·Memᴰ q qs → hasField (q .place .0) fs ≡ true
   unfolding questionsFit questionFits
   each-has earlier [] h q m = absurd (List·Memᴰ·not-nil m)
@@ -115,17 +115,12 @@ module _ (fs : List Field) where
 -- ---- refusals
 
 module _ (im : List ℕ) where
-  refused-order : (extent : ℕ) (key : List ℕ)
-      → markRefusal im extent key ≡ (if refusalOf im extent =? 0 then (if keyFits (fieldsOf im) key then 0 else 15) else refusalOf im extent)
-  unfolding markRefusal _before_ _unless_
-  refused-order extent key = refl
-
   granted : (extent : ℕ) (key : List ℕ) → markRefusal im extent key ≡ 0 → (refusalOf im extent ≡ 0) × (keyFits (fieldsOf im) key ≡ true)
   granted extent key h =
       by-test (refusalOf im extent =? 0)
       (λ e. let z = eqb-true _ 0 e in
       (z, by-test (keyFits (fieldsOf im) key) (λ k. k) (λ k. absurd (omega (arith, sym h ∙ by-key im extent key z ∙ if-false 0 15 k)))))
-      (λ e. absurd (eqb-false _ 0 e (sym (refused-order extent key ∙ if-false _ _ e) ∙ h)))
+      (λ e. absurd (eqb-false _ 0 e (sym (refused-order im extent key ∙ if-false _ _ e) ∙ h)))
 
   module _ (extent : ℕ) (key : List ℕ) (z : refusalOf im extent ≡ 0) where
     causes : faults.Fault im extent z [] (questionsOf key) → KeyFault im key
@@ -170,7 +165,7 @@ module _ (im : List ℕ) where
 
   -- ---- sheets
 
-  -- the byte of a field that is named is the field's own
+  -- the byte at a one-byte field's place is the field's own
   byte-own : (p : ℕ) (f : Field) (s : List ℕ) → ByteFieldAt im p f → byteAt s p ≡ getD (ownBytes f s) 0 0
   byte-own p f s n =
       let z : p + 0 ≡ p = omega arith in
@@ -292,7 +287,7 @@ module _ (im : List ℕ) where
     kinds = λ f. (one-byte (f .kind), byte-one);
     places = field-exactly im;
     defaults = default-is im;
-    order = refused-order;
+    order = refused-order im;
     faults = fifteen;
     refused = refused-answer;
     given = given-answer;

@@ -7,7 +7,7 @@ use mathlib.Core.List.{List, []}
 use native.Mathlib.Omega.{arith}
 use lib.ListN.{length, getD, take, length-map, List·getD-eq-default}
 use borrow.Author.Tests.{ltb-true, ltb-false, eq-eqb, ne-eqb}
-use Rattle.laws.specs.Choice.{if_then_else_, _<?_}
+use Rattle.laws.specs.Choice.{if_then_else_, _=?_, _<?_}
 use Rattle.laws.specs.Overwrite.{fit}
 use Rattle.laws.proofs.Cases.{by-test, if-true, if-false, if-eq, if-ne, and-r, and-true, and-false}
 use Rattle.laws.proofs.Overwriting.{length-fit, fit-at, take-fit}
@@ -36,12 +36,12 @@ all-zero x =
     (λ e. List·getD-eq-default zeros 0 {n = x} (omega (arith, ltb-false x 4096 e, length-fit 0 4096 [])))
 
 module _ (im : List ℕ) (extent : ℕ) (z : refusalOf im extent ≡ 0) where
-  pub knows-all : Knows (fieldsOf im) [] (withFields (fieldsOf im) zeros)
+  knows-all : Knows (fieldsOf im) [] (withFields (fieldsOf im) zeros)
   knows-all =
       knows-first (fieldsOf im) (withFields (fieldsOf im) zeros)
       (entered (fieldsOf im) zeros all-zero (rw (length-fit 0 4096 []) (fields-below im extent z)))
 
-  pub few-open : openIn (withFields (fieldsOf im) zeros) ≤ 256
+  few-open : openIn (withFields (fieldsOf im) zeros) ≤ 256
   few-open = omega (arith, open-fields (fieldsOf im) zeros all-zero, few-fields im extent z)
 
   -- a key that fits has few points
@@ -59,7 +59,7 @@ module _ (im : List ℕ) (extent : ℕ) (z : refusalOf im extent ≡ 0) where
 
   module _ (count : ℕ) (places : List ℕ) (c : count ≡ length (placesListed im extent)) (p : places ≡ fit 0 256 (placesListed im extent)) where
     -- they are read back from it, and it has room for its count
-    pub list-read : fieldsRead im (take count places) ≡ fieldsOf im
+    list-read : fieldsRead im (take count places) ≡ fieldsOf im
     list-read = ap (fieldsRead im) (rw (p, c, listed) (take-fit 0 256 (length (fieldPlaces im)) (fieldPlaces im) refl few-places)) ∙ fields-read im extent z
 
     pub list-room : count ≤ length places
@@ -67,10 +67,14 @@ module _ (im : List ℕ) (extent : ℕ) (z : refusalOf im extent ≡ 0) where
 
 -- ---- the answers of the call
 
+pub refused-order : (im : List ℕ) (extent : ℕ) (key : List ℕ)
+    → markRefusal im extent key ≡ (if refusalOf im extent =? 0 then (if keyFits (fieldsOf im) key then 0 else 15) else refusalOf im extent)
+unfolding markRefusal _before_ _unless_
+refused-order im extent key = refl
+
 -- for an accepted image the key decides
 pub by-key : (im : List ℕ) (extent : ℕ) (key : List ℕ) → refusalOf im extent ≡ 0 → markRefusal im extent key ≡ (if keyFits (fieldsOf im) key then 0 else 15)
-unfolding markRefusal _before_ _unless_
-by-key im extent key z = if-eq _ 0 _ _ z
+by-key im extent key z = refused-order im extent key ∙ if-eq _ 0 _ _ z
 
 module _ (im sheet key : List ℕ) (k : ℕ) (q : k ≡ refusalOf im (length sheet)) where
   -- an answer has its number
@@ -80,7 +84,7 @@ module _ (im sheet key : List ℕ) (k : ℕ) (q : k ≡ refusalOf im (length she
   with-number : (r : Marked) → r ≡ marked im sheet key → Answers r
   with-number r e = (e, number-told im sheet key r e)
 
-  -- the refusal number of an answer
+  -- the answer where n is refused
   refused-with : (n : ℕ) → (n ≡ 0 → ⊥) → markRefusal im (length sheet) key ≡ n → Answers (marks.Refused n)
   unfolding marked
   refused-with n h e = with-number (marks.Refused n) (sym (if-ne _ 0 _ _ (λ z. h (sym e ∙ z)) ∙ ap marks.Refused e))

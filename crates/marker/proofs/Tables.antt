@@ -20,11 +20,11 @@ use Rattle.marker.specs.Table.{setAt, withField, withFields, fieldsRead,
 
 -- ---- a number set
 
-pub length-set-at : (p n : ℕ) (t : List ℕ) → length (setAt p n t) ≡ length t
+length-set-at : (p n : ℕ) (t : List ℕ) → length (setAt p n t) ≡ length t
 unfolding setAt
 length-set-at p n t = if-ind (λ (u : List ℕ). length u ≡ length t) (p <? length t) (λ _. length-set t p n) (λ _. refl)
 
-pub at-set : (p n x : ℕ) (t : List ℕ) → p < length t → getD (setAt p n t) x 0 ≡ (if p =? x then n else getD t x 0)
+at-set : (p n x : ℕ) (t : List ℕ) → p < length t → getD (setAt p n t) x 0 ≡ (if p =? x then n else getD t x 0)
 unfolding setAt
 at-set p n x t h =
     ap (λ (u : List ℕ). getD u x 0) (if-lt p (length t) (set t p n) t h)
@@ -116,7 +116,7 @@ pub entered-none : (im ps : List ℕ) (k : ℕ) (t : List ℕ) → k ≤ 0 → w
 unfolding fieldsRead withFields
 entered-none im ps k t h = let z : k ≡ 0 = omega arith in rw z
 
-pub length-fields : (fs : List Field) (t : List ℕ) → length (withFields fs t) ≡ length t
+length-fields : (fs : List Field) (t : List ℕ) → length (withFields fs t) ≡ length t
 unfolding withFields withField
 length-fields [] t = refl
 length-fields (f ∷ fs) t =

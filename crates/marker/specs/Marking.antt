@@ -25,7 +25,7 @@ use Rattle.marker.specs.declared.mark.Marked.the-variants as marks
 unfoldable pub isByteAt : ℕ → Field → Bool
 isByteAt p f = (f .sheet .0 =? p) and (sizeOf f =? 1)
 
--- whether one of these fields is such
+-- whether one of these fields does
 unfoldable pub hasField : ℕ → List Field → Bool
 hasField p [] = false
 hasField p (f ∷ fs) = if isByteAt p f then true else hasField p fs

@@ -10,7 +10,7 @@ use Rattle.field.specs.Values.{bytesOf}
 use Rattle.field.specs.Sheet.{sizeOf}
 use Rattle.field.specs.declared.record.Field.{Field}
 use Rattle.cmf.specs.Readers.{componentAt}
-use Rattle.marker.specs.Marking.{verdictOf}
+use Rattle.marker.specs.Marking.{largestByte, mostPoints, verdictOf}
 use Rattle.marker.specs.declared.key.Question.{Question}
 use Rattle.marker.specs.declared.verdict.Verdict.{Verdict}
 use Rattle.marker.specs.declared.verdict.Verdict.the-variants as verdict
@@ -46,8 +46,8 @@ openIn (n ∷ t) = (if n =? 0 then 0 else 1) + openIn t
 -- ---- marking by it
 
 unfoldable pub fitsBy : ℕ → Question → Bool
-fitsBy n q = if n =? 0 then false else (if 255 <? q .right then false
-    else (if q .right + 1 =? n then false else q .points ≤? 255))
+fitsBy n q = if n =? 0 then false else (if largestByte <? q .right then false
+    else (if q .right + 1 =? n then false else q .points ≤? mostPoints))
 
 abbrev pub tally : ℕ → ℕ → ℕ → Tally
 tally right wrong blank = record { right = right; wrong = wrong; blank = blank }

@@ -78,8 +78,8 @@ impl Tally {
     }
 }
 
-// Whether a question fits, by the number of its place in the table: a one-byte field is there that no question
-// was about before, right byte and points are bytes, and the right byte is not the default.
+// Whether a question fits, by the number of its place in the table: a one-byte field is there that no
+// question was about before, right byte and points are bytes, and the right byte is not the default.
 fn fits(q: Question, number: u16) -> bool
     ensures { λ r. ⌜ r ≡ fitsBy number q ⌝ }
 {

@@ -4,8 +4,8 @@ use mathlib.Core.Logic.{⊎-elim}
 use lib.ListN.{length}
 use Rattle.laws.proofs.Cases.{if-true, if-false}
 use Rattle.cmf.specs.Places.{tableReach}
-use Rattle.handset.specs.Taking.{taken}
-use Rattle.handset.proofs.Filling.{taken-same, takenAt, rest, lines-last, lines-next, lines-done, table-none, table-lines}
+use Rattle.handset.specs.Taking.{gathered}
+use Rattle.handset.proofs.Filling.{gathered-same, gatheredAt, rest, lines-last, lines-next, lines-done, table-none, table-lines}
 use borrow.Author.Needs.{needs}
 use Prim.Native.Nat.{ℕ, _-_, _<_}
 use borrow.Fn.Kinds.{In}
@@ -31,7 +31,7 @@ take-table-below t =
     and 3 take-table-kinds.ps (falls 3 take-table-kinds.ps _<_ μ-take-table t) take-table.Pre
 
 abbrev take-table-Inv-loop : take-table-lts.InvT-loop
-take-table-Inv-loop image left at sheet₀ k places₀ below count₀ p₀ n₀ sheet places count p n = (rest image below n p (taken sheet count places) ≡ takenAt image (tableReach image left at) (taken sheet₀ k places₀)) × ((length sheet ≡ length sheet₀) × (length places ≡ length places₀))
+take-table-Inv-loop image left at sheet₀ k places₀ below count₀ p₀ n₀ sheet places count p n = (rest image below n p (gathered sheet count places) ≡ gatheredAt image (tableReach image left at) (gathered sheet₀ k places₀)) × ((length sheet ≡ length sheet₀) × (length places ≡ length places₀))
 
 abbrev take-table-μ-loop : take-table-lts.MeasureT-loop
 take-table-μ-loop image left at sheet₀ k places₀ below count₀ p₀ n₀ sheet places count p n = 100 - n
@@ -166,7 +166,7 @@ take-table-returns-2 : (t : ℕ) → take-table-lts.Need-returns-2 (
   take-table-below t,
   take-table.Post,
 ) (take-table-at t) take-table.Post take-table-Inv-loop take-table-μ-loop
-take-table-returns-2 t c = sym (lines-last _ _ _ _ _ _ _ _ (c .before .before .before .before .before .before .before .before .before .before .loop-test .taken) (c .before .before .before .before .before .before .before .before .before .read-head .ensures) (c .before .before .before .before .before .before .take-components .ensures) (⊎-elim (λ w. taken-same (w .8) (w .10) (w .9) ∙ w .3 .ensures ∙ sym (if-true _ _ (w .0 .taken))) (λ w. taken-same (w .1) (w .3) (w .2) ∙ sym (if-false _ _ (w .0 .left))) (c .before .if2 .came)) (c .if3 .taken)) ∙ c .before .before .before .before .before .before .before .before .before .before .before .loop .inv .0
+take-table-returns-2 t c = sym (lines-last _ _ _ _ _ _ _ _ (c .before .before .before .before .before .before .before .before .before .before .loop-test .taken) (c .before .before .before .before .before .before .before .before .before .read-head .ensures) (c .before .before .before .before .before .before .take-components .ensures) (⊎-elim (λ w. gathered-same (w .8) (w .10) (w .9) ∙ w .3 .ensures ∙ sym (if-true _ _ (w .0 .taken))) (λ w. gathered-same (w .1) (w .3) (w .2) ∙ sym (if-false _ _ (w .0 .left))) (c .before .if2 .came)) (c .if3 .taken)) ∙ c .before .before .before .before .before .before .before .before .before .before .before .loop .inv .0
 
 take-table-add-n : (t : ℕ) → take-table-lts.Need-add-n (
   read-title-reads.Asked,
@@ -202,7 +202,7 @@ take-table-loop-again : (t : ℕ) → take-table-lts.Need-loop-again (
   take-table-below t,
   take-table.Post,
 ) (take-table-at t) take-table.Post take-table-Inv-loop take-table-μ-loop
-take-table-loop-again t c = (sym (lines-next _ _ _ _ _ _ _ _ (c .before .before .before .before .before .before .before .before .before .before .loop-test .taken) (c .before .before .before .before .before .before .before .before .before .read-head .ensures) (c .before .before .before .before .before .before .take-components .ensures) (⊎-elim (λ w. taken-same (w .8) (w .10) (w .9) ∙ w .3 .ensures ∙ sym (if-true _ _ (w .0 .taken))) (λ w. taken-same (w .1) (w .3) (w .2) ∙ sym (if-false _ _ (w .0 .left))) (c .before .if2 .came)) (c .if3 .left)) ∙ c .before .before .before .before .before .before .before .before .before .before .before .loop .inv .0, (⊎-elim (λ w. ap length (w .8) ∙ w .3 .kept .1 .1 .1 .0 ∙ c .before .before .before .before .before .before .take-components .kept .1 .1 .0 ∙ c .before .before .before .before .before .before .before .before .before .before .before .loop .inv .1 .0) (λ w. ap length (w .1) ∙ c .before .before .before .before .before .before .take-components .kept .1 .1 .0 ∙ c .before .before .before .before .before .before .before .before .before .before .before .loop .inv .1 .0) (c .before .if2 .came), ⊎-elim (λ w. ap length (w .9) ∙ w .3 .kept .1 .1 .1 .1 .1 .0 ∙ c .before .before .before .before .before .before .take-components .kept .1 .1 .1 .1 .0 ∙ c .before .before .before .before .before .before .before .before .before .before .before .loop .inv .1 .1) (λ w. ap length (w .2) ∙ c .before .before .before .before .before .before .take-components .kept .1 .1 .1 .1 .0 ∙ c .before .before .before .before .before .before .before .before .before .before .before .loop .inv .1 .1) (c .before .if2 .came)))
+take-table-loop-again t c = (sym (lines-next _ _ _ _ _ _ _ _ (c .before .before .before .before .before .before .before .before .before .before .loop-test .taken) (c .before .before .before .before .before .before .before .before .before .read-head .ensures) (c .before .before .before .before .before .before .take-components .ensures) (⊎-elim (λ w. gathered-same (w .8) (w .10) (w .9) ∙ w .3 .ensures ∙ sym (if-true _ _ (w .0 .taken))) (λ w. gathered-same (w .1) (w .3) (w .2) ∙ sym (if-false _ _ (w .0 .left))) (c .before .if2 .came)) (c .if3 .left)) ∙ c .before .before .before .before .before .before .before .before .before .before .before .loop .inv .0, (⊎-elim (λ w. ap length (w .8) ∙ w .3 .kept .1 .1 .1 .0 ∙ c .before .before .before .before .before .before .take-components .kept .1 .1 .0 ∙ c .before .before .before .before .before .before .before .before .before .before .before .loop .inv .1 .0) (λ w. ap length (w .1) ∙ c .before .before .before .before .before .before .take-components .kept .1 .1 .0 ∙ c .before .before .before .before .before .before .before .before .before .before .before .loop .inv .1 .0) (c .before .if2 .came), ⊎-elim (λ w. ap length (w .9) ∙ w .3 .kept .1 .1 .1 .1 .1 .0 ∙ c .before .before .before .before .before .before .take-components .kept .1 .1 .1 .1 .0 ∙ c .before .before .before .before .before .before .before .before .before .before .before .loop .inv .1 .1) (λ w. ap length (w .2) ∙ c .before .before .before .before .before .before .take-components .kept .1 .1 .1 .1 .0 ∙ c .before .before .before .before .before .before .before .before .before .before .before .loop .inv .1 .1) (c .before .if2 .came)))
 
 take-table-same-length-3 : (t : ℕ) → take-table-lts.Need-same-length-3 (
   read-title-reads.Asked,

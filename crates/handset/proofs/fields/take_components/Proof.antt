@@ -3,14 +3,14 @@ use Prim.Native.Nat.{_+_}
 use mathlib.Core.Path.{_≡_, sym, _∙_}
 use lib.ListN.{length}
 use Rattle.cmf.specs.Places.{componentsFrom}
-use Rattle.handset.specs.Taking.{taken}
-use Rattle.handset.proofs.Filling.{takenAt, components-last, components-next, components-done}
+use Rattle.handset.specs.Taking.{gathered}
+use Rattle.handset.proofs.Filling.{gatheredAt, components-last, components-next, components-done}
 use borrow.Author.Needs.{needs}
 use Rattle.handset.proofs.fields.take_components.Statement.{statement}
 use Rattle.handset.proofs.fields.take_components.Tie as tie
 
 abbrev Inv-loop : tie.InvT-loop
-Inv-loop image p sheet₀ k places₀ count₀ c₀ left₀ sheet places count c left = (takenAt image (componentsFrom image left c) (taken sheet count places) ≡ takenAt image (componentsFrom image (length image + 1) p) (taken sheet₀ k places₀)) × ((length sheet ≡ length sheet₀) × (length places ≡ length places₀))
+Inv-loop image p sheet₀ k places₀ count₀ c₀ left₀ sheet places count c left = (gatheredAt image (componentsFrom image left c) (gathered sheet count places) ≡ gatheredAt image (componentsFrom image (length image + 1) p) (gathered sheet₀ k places₀)) × ((length sheet ≡ length sheet₀) × (length places ≡ length places₀))
 
 abbrev μ-loop : tie.MeasureT-loop
 μ-loop image p sheet₀ k places₀ count₀ c₀ left₀ sheet places count c left = left

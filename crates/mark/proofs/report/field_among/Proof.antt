@@ -23,8 +23,8 @@ shared-slice-read-at c = search needs
 read-component-requires : tie.Need-read-component-requires Inv-loop μ-loop
 read-component-requires c κs = search needs
 
-is-at-requires : tie.Need-is-at-requires Inv-loop μ-loop
-is-at-requires c κs = search needs
+is-byte-at-requires : tie.Need-is-byte-at-requires Inv-loop μ-loop
+is-byte-at-requires c κs = search needs
 
 returns : tie.Need-returns Inv-loop μ-loop
 returns c = search needs
@@ -51,7 +51,7 @@ field-among-spec =
     mul-at
     shared-slice-read-at
     read-component-requires
-    is-at-requires
+    is-byte-at-requires
     returns
     add-i
     loop-less

@@ -1,3 +1,4 @@
+-- By the tests in the code's order.
 use native.Mathlib.Omega.{arith}
 use Rattle.laws.proofs.Cases.{choices}
 use Rattle.marker.specs.Marking.{verdictOf}
