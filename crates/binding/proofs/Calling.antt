@@ -12,7 +12,7 @@ use Rattle.laws.proofs.Cases.{if-ind, by-test, if-eq, if-ne}
 use Rattle.acceptance.specs.Check.{refusalOf}
 use Rattle.session.specs.Session.{closed}
 use Rattle.session.specs.Fits.{shapeFits, sessionFits}
-use Rattle.session.specs.Answers.{answerNumber}
+use Rattle.session.specs.Answers.{toldNumber}
 use Rattle.session.specs.declared.session.Session.{Session}
 use Rattle.session.specs.declared.answer.Stepped.{Stepped}
 use Rattle.session_bytes.specs.Layout.{sessionBytes, sessionWritten, sessionIn, sessionFrom}
@@ -20,21 +20,22 @@ use Rattle.session_bytes.proofs.Layouts.{written}
 use Rattle.session.proofs.Closed.{closed-never-fits}
 use Rattle.handset.specs.Refusals.{_before_, _unless_, sessionRefusal}
 use Rattle.handset.specs.Open.{openRefusal, openAnswer, openSheet}
-use Rattle.handset.specs.Event.{eventRefusal, eventStep, eventAnswer, eventSheet, refusedWith}
+use Rattle.handset.specs.Event.{eventRefusal, eventStep, eventSheet, refusedWith}
 use Rattle.handset.specs.Draw.{drawRefusal, drawCursor, drawnPicture}
 use Rattle.handset.specs.OptionText.{textRefusal, textPlace}
 use Rattle.handset.specs.declared.option.TextPlace.{TextPlace}
 use Rattle.handset.specs.declared.open.Opened.{Opened}
 use Rattle.handset.proofs.Items.{shown-inside, shown-refusal}
 use Rattle.handset.proofs.Ordering.{first-given, next-given, holding, failing, none-before, Granted, session-granted}
-use Rattle.handset.proofs.Stepping.{event-granted, refused-step, stepped}
-use Rattle.binding.specs.Answers.{refusedBy, placeOf, cursorNumber}
+use Rattle.handset.proofs.Stepping.{event-granted, refused-step}
+use Rattle.handset.proofs.Answering.{event-told, event-below}
+use Rattle.binding.specs.Answers.{refusedBy, cursorNumber}
 use Rattle.binding.specs.Calls.{openNumber, openedSheet, openedBytes, openedSession, eventNumber, eventBytes, drawNumber, textNumber}
-use Rattle.binding.proofs.Answering.{Plain, told-plain, step-plain, short, cursor-plain}
+use Rattle.binding.proofs.Cursors.{short, cursor-plain}
 
 -- ---- Open
 
-before-none : (a : ℕ) → a before 0 ≡ a
+pub before-none : (a : ℕ) → a before 0 ≡ a
 unfolding _before_
 before-none a = if-ind (λ (k : ℕ). k ≡ a) (a =? 0) (λ e. sym (eqb-true a 0 e)) (λ _. refl)
 
@@ -124,31 +125,19 @@ module _ (im sheet bs : List ℕ) (e : ℕ) {s : Session} (p : s ≡ sessionFrom
   unfolding refusal
   granted z = event-granted im (length sheet) (sessionFrom bs) e z .granted
 
-  -- a step's answer is near, and so is a refusal's, which has no place
-  plain : refusal ≡ 0 → Plain 32768 r
-  unfolding refusal
-  plain z =
-      let t = stepped im sheet (sessionFrom bs) e _ refl z ∙ sym next in
-      rw (← t) (step-plain im sheet (sessionFrom bs) e (granted z))
-
-  pub place-near : placeOf (r .answer) < 65536
-  unfolding placeOf
-  place-near =
-      by-test (refusal =? 0)
-      (λ t. omega (arith, plain (eqb-true refusal 0 t) .near))
-      (λ t. rw (← refused (eqb-false refusal 0 t)) (omega arith))
-
-  pub number-told : (n : ℕ) → n ≡ answerNumber (r .answer) → n ≡ eventNumber im sheet bs e
-  unfolding eventNumber eventAnswer
-  number-told n h = h ∙ ap (λ (x : Stepped). answerNumber (x .answer)) next
+  -- the answer's number, which is not cut
+  pub number-told : (n : ℕ) → n ≡ toldNumber (r .answer) → n ≡ eventNumber im sheet bs e
+  unfolding eventNumber
+  number-told n h = h ∙ ap (λ (x : Stepped). toldNumber (x .answer)) next ∙ event-told im sheet (sessionFrom bs) e
 
   pub sheet-told : (t : List ℕ) → t ≡ eventSheet im sheet s e → t ≡ eventSheet im sheet (sessionFrom bs) e
   sheet-told t h = rw p at h
 
   -- a refusal's number leaves the bytes
-  module _ (n : ℕ) (m : n ≡ answerNumber (r .answer)) (h : 16777216 ≤ n) where
+  module _ (n : ℕ) (m : n ≡ toldNumber (r .answer)) (h : 16777216 ≤ n) where
     is-refused : refusal ≡ 0 → ⊥
-    is-refused z = omega (arith, told-plain (r .answer) (plain z .given), plain z .near)
+    unfolding refusal eventNumber
+    is-refused z = omega (arith, number-told n m, event-below im sheet (sessionFrom bs) e z)
 
     pub bytes-refused : bs ≡ eventBytes im sheet bs e
     unfolding eventBytes refusal
@@ -158,12 +147,12 @@ module _ (im sheet bs : List ℕ) (e : ℕ) {s : Session} (p : s ≡ sessionFrom
     session-kept = ap (λ (x : Stepped). x .session) (refused is-refused ∙ next)
 
   -- with any other they are those of the stepped session, for which there is room
-  module _ (n : ℕ) (m : n ≡ answerNumber (r .answer)) (h : n < 16777216) where
+  module _ (n : ℕ) (m : n ≡ toldNumber (r .answer)) (h : n < 16777216) where
     not-refused : refusal ≡ 0
-    unfolding answerNumber
+    unfolding toldNumber
     not-refused =
         by-test (refusal =? 0) (λ t. eqb-true refusal 0 t)
-        (λ t. let q = ap (λ (x : Stepped). answerNumber (x .answer)) (refused (eqb-false refusal 0 t)) in absurd (omega arith))
+        (λ t. let q = ap (λ (x : Stepped). toldNumber (x .answer)) (refused (eqb-false refusal 0 t)) in absurd (omega arith))
 
     module _ (t : List ℕ) (w : t ≡ sessionWritten (r .session) bs) where
       all : t ≡ sessionBytes (r .session)

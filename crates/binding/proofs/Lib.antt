@@ -1,4 +1,4 @@
-pub mod Answering
+pub mod Cursors
 pub mod Wide
 pub mod Calling
 pub mod Sums

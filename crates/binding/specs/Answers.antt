@@ -3,8 +3,6 @@ use Prim.Native.Nat.{ℕ, _+_, _*_}
 use mathlib.Core.List.{List, [], _∷_}
 use Rattle.laws.specs.Choice.{if_then_else_, _=?_}
 use Rattle.session.specs.Answers.{refusedFrom}
-use Rattle.session.specs.declared.answer.Answer.{Answer}
-use Rattle.session.specs.declared.answer.Answer.the-variants as answer
 
 -- a refusal's number with 16,777,216 added, as in an answer; 0 where nothing is refused
 unfoldable pub refusedBy : ℕ → ℕ
@@ -19,11 +17,3 @@ unfoldable pub cursorNumber : List ℕ → ℕ
 cursorNumber [] = 0
 cursorNumber (row ∷ []) = 0
 cursorNumber (row ∷ column ∷ rest) = cursorFrom + 256 * row + column
-
--- the image place in an answer; an answer that is given has one below 32,768
-unfoldable pub placeOf : Answer → ℕ
-placeOf answer.Taken = 0
-placeOf answer.Flash = 0
-placeOf (answer.Finished p) = p .0
-placeOf (answer.Fired p) = p .0
-placeOf (answer.Refused n) = 0

@@ -1,19 +1,14 @@
 // The answers of the calls as numbers.
 ghost use mathlib.Core.Path.{_≡_};
 ghost use Prim.Native.Nat.{_<_};
-ghost use Rattle.session.specs.Answers.{answerNumber};
 ghost use Rattle.picture.specs.Cursor as cursor_at;
-ghost use Rattle.binding.specs.Answers.{refusedBy, placeOf, cursorNumber};
+ghost use Rattle.binding.specs.Answers.{refusedBy, cursorNumber};
 use picture::cursor::EditCursor;
 use session::answer::Answer;
 
-pub const FINISHED: u32 = 65536;
-
-pub const FIRED: u32 = 131072;
-
 pub const CURSOR: u32 = 65536;
 
-pub const REFUSED: u32 = 16777216;
+pub const REFUSED: u32 = Answer::REFUSED;
 
 // The number of a refusal, 0 for none.
 pub(crate) fn refused_by(refusal: u8) -> u32
@@ -23,20 +18,6 @@ pub(crate) fn refused_by(refusal: u8) -> u32
         return 0;
     }
     REFUSED + refusal as u32
-}
-
-// What an event answered.
-pub(crate) fn answer_number(answer: Answer) -> u32
-    requires { ⌜ placeOf answer < 65536 ⌝ }
-    ensures { λ r. ⌜ r ≡ answerNumber answer ⌝ }
-{
-    match answer {
-        Answer::Taken => 0,
-        Answer::Flash => 1,
-        Answer::Finished(p) => FINISHED + p.0 as u32,
-        Answer::Fired(p) => FIRED + p.0 as u32,
-        Answer::Refused(n) => REFUSED + n as u32,
-    }
 }
 
 // Where the edit cursor is, 0 for nowhere.

@@ -10,7 +10,6 @@ ghost use Rattle.handset.specs.Open.{openRefusal};
 ghost use Rattle.handset.specs.Event.{eventStep, eventSheet};
 ghost use Rattle.handset.specs.Draw.{drawnPicture};
 use crate::answer::REFUSED;
-use crate::answer::answer_number;
 use crate::answer::cursor_number;
 use crate::answer::refused_by;
 use field::kind::ImagePlace;
@@ -32,7 +31,7 @@ const REFUSED_TEXT: u64 = 4294967296;
 const PLACE: u64 = 65536;
 
 // A number of C as the byte that `handset` takes: what is above 255 goes as 255, which is refused alike.
-fn byte_of(n: u32) -> u8
+pub(crate) fn byte_of(n: u32) -> u8
     ensures { λ r. ⌜ r ≡ min n 255 ⌝ }
 {
     if n < 255 {
@@ -42,7 +41,7 @@ fn byte_of(n: u32) -> u8
 }
 
 // The refusal of an Open whose session would not fit its buffer: 1, 2 to 11, then 12.
-fn unsized_refusal(image: &[u8], extent: usize, columns: u8, lines: u8) -> u8
+pub(crate) fn unsized_refusal(image: &[u8], extent: usize, columns: u8, lines: u8) -> u8
     ensures { λ r. ⌜ r ≡ openRefusal (now (image .entry)) extent columns lines before 12 ⌝ }
 {
     let shape = shape_fits(columns, lines);
@@ -106,7 +105,7 @@ pub extern "C" fn handset_event(
         byte_of(event),
     );
     let answer = stepped.answer;
-    let number = answer_number(answer);
+    let number = answer.number();
     if REFUSED <= number {
         return number;
     }

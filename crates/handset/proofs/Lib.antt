@@ -5,6 +5,7 @@ pub mod Filling
 pub mod Opening
 pub mod AfterOpen
 pub mod Stepping
+pub mod Answering
 pub mod Drawing
 pub mod Printed
 pub mod Widths

@@ -6,7 +6,7 @@ use mathlib.Core.List.{List}
 use native.Mathlib.Omega.{arith}
 use borrow.Author.Tests.{eqb-true, eqb-false}
 use Rattle.laws.specs.Choice.{if_then_else_, _=?_}
-use Rattle.laws.proofs.Cases.{if-true, if-false, if-eq, if-ne, if-ind}
+use Rattle.laws.proofs.Cases.{by-test, if-true, if-false, if-eq, if-ne, if-ind}
 use Rattle.acceptance.specs.Check.{refusalOf}
 use Rattle.session.specs.Fits.{sessionFits}
 use Rattle.session.specs.declared.session.Session.{Session}
@@ -38,6 +38,19 @@ module _ (k r j : ℕ) (t : Bool) (e : k ≡ r) where
 
   pub not-refused : k ≡ 0 → t ≡ true → 0 ≡ r before (j unless t)
   not-refused h f = sym (rw (← e) (next-given k _ h ∙ holding j t f))
+
+-- a test first, as a choice
+pub tested-before : (k : ℕ) (t : Bool) (b : ℕ) → (k ≡ 0 → ⊥) → (k unless t) before b ≡ (if t then b else k)
+unfolding _before_ _unless_ if_then_else_
+tested-before k true b h = refl
+tested-before k false b h = if-ne k 0 b k h
+
+-- three in a row, in either grouping
+pub before-before : (a b c : ℕ) → (a before b) before c ≡ a before (b before c)
+before-before a b c =
+    by-test (a =? 0)
+    (λ e. let z = eqb-true a 0 e in rw (next-given a b z, next-given a (b before c) z))
+    (λ e. let z = eqb-false a 0 e in rw (first-given a b z, first-given a (b before c) z) (first-given a c z))
 
 -- no refusal of two is none of each
 pub none-before : (a b : ℕ) → a before b ≡ 0 → (a ≡ 0) × (b ≡ 0)

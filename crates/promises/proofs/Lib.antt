@@ -2,7 +2,6 @@ pub mod Fitting
 pub mod FittingEntries
 pub mod WorkingCopies
 pub mod FittingVisits
-pub mod Answering
 pub mod Unrefused
 pub mod Lines
 pub mod Steps

@@ -51,7 +51,7 @@ use Rattle.journal.proofs.Sittings.{formed, at-default, sheet-holds-journal, de
 use Rattle.journal.proofs.Beside.{played-apart}
 use Rattle.protected.proofs.Protected.{only-after-its-digits, every-protected-line-was-opened-by-its-digits}
 use Rattle.promises.proofs.Unrefused.{never-refused, opened-long, played-long}
-use Rattle.promises.proofs.Answering.{told-apart}
+use Rattle.handset.proofs.Answering.{event-told, told-apart}
 use Rattle.promises.proofs.Lines.{cursors-agree}
 use Rattle.promises.proofs.Steps.{event-promises}
 use Rattle.promises.proofs.Pictures.{draw-promises}
@@ -258,7 +258,7 @@ demand-2 im = record {
     place = place-some im;
     own = item-is im;
   };
-  told-apart = record { events = told-apart; cursors = cursor-once };
+  told-apart = record { events = told-apart; whole = event-told; cursors = cursor-once };
   every-event = event-promises im;
   every-draw = draw-promises im;
   protected = λ sheet columns lines es. record {

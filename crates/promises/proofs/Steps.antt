@@ -42,7 +42,7 @@ use Rattle.handset.proofs.Stepping.{stepped, EventGranted, event-granted}
 use Rattle.journal.proofs.Reached.{level-in}
 use Rattle.protected.proofs.Passwords.{head-guarded}
 use Rattle.promises.specs.Steps.{Unchanged, EventPromises}
-use Rattle.promises.proofs.Answering.{by-refusal}
+use Rattle.handset.proofs.Answering.{by-refusal}
 use Rattle.promises.proofs.Unrefused.{sheet-stays-long}
 
 -- ---- tables end at the eighth

@@ -46,7 +46,7 @@ use Rattle.promises.specs.Unrefused.{NothingRefused}
 use Rattle.promises.proofs.Fitting.{Sized, Good, good-of, fits-of, Keeps, by-keeps, idle-good, up-keeps, down-keeps, left-keeps, second-keeps}
 use Rattle.promises.proofs.FittingEntries.{right-keeps, entry-keeps}
 use Rattle.promises.proofs.FittingVisits.{enter-keeps, visit-keeps}
-use Rattle.promises.proofs.Answering.{mode-plain}
+use Rattle.handset.proofs.Answering.{mode-plain}
 
 -- what a step keeps: the session fits, for the same display
 pub record StillFits (im : List ℕ) (s z : Session) : Type 0 where

@@ -16,7 +16,7 @@ use Rattle.cmf.specs.Places.{fieldsOf}
 use Rattle.acceptance.specs.Check.{refusalOf}
 use Rattle.session.specs.Session.{noLevel, opened}
 use Rattle.session.specs.Fits.{shapeFits, sessionFits, cursorHead}
-use Rattle.session.specs.Answers.{answerNumber}
+use Rattle.session.specs.Answers.{answerNumber, toldNumber}
 use Rattle.session.specs.Step.{stepOf, sheetOf}
 use Rattle.session.specs.declared.session.Session.{Session}
 use Rattle.picture.specs.Rows.{pictureOf}
@@ -94,6 +94,9 @@ pub record ToldApart : Type 0 where
   pub events : (im sheet : List ℕ) (s : Session) (e : ℕ) (im′ sheet′ : List ℕ) (s′ : Session) (e′ : ℕ)
       → eventAnswer im sheet s e ≡ eventAnswer im′ sheet′ s′ e′
       → eventStep im sheet s e .answer ≡ eventStep im′ sheet′ s′ e′ .answer
+  -- (theorem) none is cut where it is told in 32 bits
+  pub whole : (im sheet : List ℕ) (s : Session) (e : ℕ)
+      → toldNumber (eventStep im sheet s e .answer) ≡ eventAnswer im sheet s e
   -- (theorem) no two edit cursors share theirs
   pub cursors : (a b : EditCursor) → cursor.cursorPlace a ≡ cursor.cursorPlace b → a ≡ b
 

@@ -1,11 +1,13 @@
--- No two answers share a number where image places are below 65,536: each answer is found again from its number.
+-- Where image places are below 65,536 no answer's number is cut, and no two share one: each answer is found again from its number.
 use Prim.Native.Nat.{ℕ, _+_, _-_, _<_}
 use mathlib.Core.Path.{_≡_, refl, sym, ap, _∙_}
+use mathlib.Core.Bool.{false, false≢true}
+use native.Mathlib.Nat.{min-eq-left}
 use native.Mathlib.Omega.{arith}
 use Rattle.laws.specs.Choice.{if_then_else_, _=?_, _<?_}
 use Rattle.laws.proofs.Cases.{if-lt, if-ge, if-ne}
 use Rattle.field.specs.declared.kind.ImagePlace.{ImagePlace}
-use Rattle.session.specs.Answers.{finishedFrom, firedFrom, refusedFrom, answerNumber}
+use Rattle.session.specs.Answers.{finishedFrom, firedFrom, refusedFrom, answerNumber, mostPlace, toldNumber, isRefused}
 use Rattle.session.specs.declared.answer.Answer.{Answer}
 use Rattle.session.specs.declared.answer.Answer.the-variants as answer
 
@@ -47,3 +49,21 @@ again (answer.Refused k) h =
 
 pub told-once : (a b : Answer) → Near a → Near b → answerNumber a ≡ answerNumber b → a ≡ b
 told-once a b h k e = sym (again a h) ∙ ap answerOf e ∙ again b k
+
+-- no number is cut
+pub near-told : (a : Answer) → Near a → toldNumber a ≡ answerNumber a
+unfolding toldNumber answerNumber
+near-told answer.Taken h = refl
+near-told answer.Flash h = refl
+near-told (answer.Finished p) h = rw (min-eq-left {n = p .0} {m = mostPlace} (omega arith))
+near-told (answer.Fired p) h = rw (min-eq-left {n = p .0} {m = mostPlace} (omega arith))
+near-told (answer.Refused n) h = refl
+
+-- a refusal's number is above all others
+pub given-below : (a : Answer) → Near a → isRefused a ≡ false → answerNumber a < refusedFrom
+unfolding answerNumber
+given-below answer.Taken h g = omega arith
+given-below answer.Flash h g = omega arith
+given-below (answer.Finished p) h g = omega arith
+given-below (answer.Fired p) h g = omega arith
+given-below (answer.Refused n) h g = absurd (false≢true (sym g))

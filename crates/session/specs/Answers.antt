@@ -1,6 +1,6 @@
 -- What an event makes of a session: the answers, and a session with something changed (01, The four calls and
 -- Keys).
-use Prim.Native.Nat.{ℕ, _+_}
+use Prim.Native.Nat.{ℕ, _+_, min}
 use mathlib.Core.Bool.{Bool, true, false}
 use mathlib.Core.List.{List}
 use Rattle.field.specs.declared.kind.ImagePlace.{ImagePlace}
@@ -31,6 +31,17 @@ answerNumber answer.Flash = 1
 answerNumber (answer.Finished p) = finishedFrom + p .0
 answerNumber (answer.Fired p) = firedFrom + p .0
 answerNumber (answer.Refused n) = refusedFrom + n
+
+-- the number as the code tells it, in 32 bits: no place of an image is cut (`handset` `event-told`)
+abbrev pub mostPlace : ℕ
+mostPlace = 65535
+
+unfoldable pub toldNumber : Answer → ℕ
+toldNumber answer.Taken = 0
+toldNumber answer.Flash = 1
+toldNumber (answer.Finished p) = finishedFrom + min (p .0) mostPlace
+toldNumber (answer.Fired p) = firedFrom + min (p .0) mostPlace
+toldNumber (answer.Refused n) = refusedFrom + n
 
 -- the answers that are told apart: a flash, a refusal
 abbrev pub isFlash : Answer → Bool

@@ -1,5 +1,7 @@
 // What an event answers, and a session with something changed.
 ghost use mathlib.Core.Path.{_≡_};
+ghost use Prim.Native.Nat.{_+_, _≤_, min};
+ghost use Rattle.session.specs.Answers.{firedFrom, mostPlace, toldNumber};
 ghost use Rattle.session.specs.Answers.{taken, flash, withIdle, withHere, inMode};
 use crate::session::Level;
 use crate::session::Mode;
@@ -16,6 +18,42 @@ pub enum Answer {
     Finished(ImagePlace),
     Fired(ImagePlace),
     Refused(u8),
+}
+
+// A number with a place added. A place above the largest is told as the largest.
+fn with_place(number: u32, place: ImagePlace) -> u32
+    requires { ⌜ number ≤ firedFrom ⌝ }
+    ensures { λ r. ⌜ r ≡ number + min (place .0) mostPlace ⌝ }
+{
+    if place.0 < Answer::MAX_PLACE {
+        return number + place.0 as u32;
+    }
+    number + Answer::MAX_PLACE as u32
+}
+
+impl Answer {
+    // The numbers that a place, or a refusal's number, is added to.
+    pub const FINISHED: u32 = 65536;
+
+    pub const FIRED: u32 = 131072;
+
+    pub const REFUSED: u32 = 16777216;
+
+    // The largest place that a number tells; those of an image are below it.
+    const MAX_PLACE: usize = 65535;
+
+    // The answer's number.
+    pub fn number(self) -> u32
+        ensures { λ r. ⌜ r ≡ toldNumber self ⌝ }
+    {
+        match self {
+            Answer::Taken => 0,
+            Answer::Flash => 1,
+            Answer::Finished(place) => with_place(Answer::FINISHED, place),
+            Answer::Fired(place) => with_place(Answer::FIRED, place),
+            Answer::Refused(refusal) => Answer::REFUSED + refusal as u32,
+        }
+    }
 }
 
 pub struct Stepped {

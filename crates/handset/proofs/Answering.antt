@@ -1,5 +1,5 @@
--- The answer of a step is no refusal, and the place that it names is that of the visited component, which is in the image: so no two answers share a
--- number.
+-- The answer of a step is no refusal, and the place that it names is that of the visited component, which is in the image: so no answer's number is
+-- cut, and no two share one.
 use Prim.Native.Nat.{ℕ, _<_}
 use mathlib.Core.Path.{_≡_, refl}
 use mathlib.Core.Bool.{Bool, true, false, false≢true}
@@ -17,7 +17,7 @@ use Rattle.keys.specs.declared.press.Outcome.the-variants as outcome
 use Rattle.cmf.specs.Readers.{componentAt}
 use Rattle.cmf.specs.declared.component.Component.{Component}
 use Rattle.acceptance.proofs.Acceptance.{accepted-exactly-when-well-formed}
-use Rattle.session.specs.Answers.{finishedFrom, isRefused, taken, flash}
+use Rattle.session.specs.Answers.{finishedFrom, refusedFrom, isRefused, toldNumber, taken, flash}
 use Rattle.session.specs.Fits.{modeFits, visitFits, sessionFits}
 use Rattle.session.specs.Seconds.{browseSecond, entrySecond}
 use Rattle.cmf.specs.declared.place.Found.{Found}
@@ -30,9 +30,9 @@ use Rattle.session.specs.declared.session.Mode.{Mode}
 use Rattle.session.specs.declared.session.Mode.the-variants as mode
 use Rattle.session.specs.declared.session.Session.{Session}
 use Rattle.session.specs.declared.answer.Stepped.{Stepped}
-use Rattle.session.proofs.Answers.{Near, told-once}
+use Rattle.session.proofs.Answers.{Near, near-told, given-below, told-once}
 use Rattle.handset.specs.Event.{eventRefusal, refusedWith, eventStep, eventAnswer, eventSheet}
 use Rattle.handset.proofs.Stepping.{refused-step, refused-sheet, stepped, stepped-sheet, event-granted}
 
 -- ---- the step of a mode
 
@@ -113,7 +113,7 @@ module _ (im sheet : List ℕ) (s : Session) (e : ℕ) where
       rw (← refused-step im sheet s e _ refl z, ← refused-sheet im sheet s e _ refl z) (g z))
 
   -- the place that an answer names is below 65,536
-  event-near : Near (eventStep im sheet s e .answer)
+  pub event-near : Near (eventStep im sheet s e .answer)
   event-near =
       by-refusal (λ (r : Stepped) (x : List ℕ). Near (r .answer))
       (λ h. let g = event-granted im (length sheet) s e h in
@@ -121,6 +121,17 @@ module _ (im sheet : List ℕ) (s : Session) (e : ℕ) where
       mode-plain im sheet s e (s .mode) .near
       (λ p m. omega (arith, visit-inside im s p (g .granted .fits) m, w .prolog .most)))
       (λ _. tt)
+
+  -- so that the code tells its number whole
+  pub event-told : toldNumber (eventStep im sheet s e .answer) ≡ eventAnswer im sheet s e
+  unfolding eventAnswer
+  event-told = near-told _ event-near
+
+  -- and one that is not refused is below the numbers of refusals
+  pub event-below : refusal ≡ 0 → eventAnswer im sheet s e < refusedFrom
+  unfolding eventAnswer
+  event-below z =
+      given-below _ event-near (rw (← stepped im sheet s e _ refl z) (mode-plain im sheet s e (s .mode) .given))
 
 -- the number of an answer settles it
 pub told-apart : (im sheet : List ℕ) (s : Session) (e : ℕ) (im′ sheet′ : List ℕ) (s′ : Session) (e′ : ℕ)
