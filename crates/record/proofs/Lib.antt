@@ -1,0 +1,10 @@
+pub mod Groups
+pub mod Stores
+pub mod Readings
+pub mod Steps
+pub mod Records
+pub mod Events
+pub mod Writings
+pub mod Sequences
+pub mod Accepted
+pub mod Promises

@@ -1,0 +1,4 @@
+pub mod Numbers
+pub mod Forms
+pub mod Heads
+pub mod Promises
