@@ -17,6 +17,7 @@ use Rattle.handset.specs.Refusals.{_before_}
 use Rattle.handset.specs.Open.{openRefusal, openAnswer, openSheet}
 use Rattle.handset.specs.Event.{eventRefusal, eventStep, eventSheet}
 use Rattle.handset.specs.declared.open.Opened.{Opened}
+use Rattle.journal.specs.Sitting.{begunWith}
 use Rattle.handset.proofs.Ordering.{none-before, none-unless}
 use Rattle.handset.proofs.Stepping.{event-granted, refused-step, refused-sheet}
 
@@ -72,7 +73,7 @@ module _ (columns lines a b : ℕ) (p : a ≡ min columns 255) (q : b ≡ min li
   shape-wide =
       rw (p, q, at-least 14 columns (omega arith), at-most 20 columns (omega arith), at-least 2 lines (omega arith), at-most 4 lines (omega arith))
 
-  open-wide : (im : List ℕ) (n : ℕ) → openRefusal im n a b ≡ openRefusal im n columns lines
+  pub open-wide : (im : List ℕ) (n : ℕ) → openRefusal im n a b ≡ openRefusal im n columns lines
   unfolding openRefusal
   open-wide im n = rw shape-wide
 
@@ -107,3 +108,7 @@ module _ (columns lines a b : ℕ) (p : a ≡ min columns 255) (q : b ≡ min li
   pub sheet-by : (im s t : List ℕ) → t ≡ openSheet im s a b → t ≡ openSheet im s columns lines
   unfolding openSheet
   sheet-by im s t h = rw (open-wide im (length s)) at h
+
+  pub begun-wide : (im s : List ℕ) → begunWith im s a b ≡ begunWith im s columns lines
+  unfolding begunWith
+  begun-wide im s = rw (answer-wide im (length s), sheet-by im s (openSheet im s a b) refl)

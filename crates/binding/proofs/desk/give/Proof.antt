@@ -21,6 +21,9 @@ same-length c = search needs
 returns : tie.Need-returns
 returns c = (sym (if-eq _ 3 _ _ (c .if1 .taken)), three-set (c .before .args .sums .now) _ _ _ (c .if1 .taken) ∙ sym (if-eq _ 3 _ _ (c .if1 .taken)))
 
+cast-result : tie.Need-cast-result
+cast-result c = search needs
+
 add-result : tie.Need-add-result
 add-result c = search needs
 
@@ -36,5 +39,6 @@ give-spec =
     slice-write-sums-3
     same-length
     returns
+    cast-result
     add-result
     returns-2)
