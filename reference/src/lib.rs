@@ -1,5 +1,5 @@
-//! An executor of CMF 0.4 menus and the marker, written from the papers: document 01, section 7 of document 001, request No. 1 of
-//! document 02, and the readings R1 to R33 and R40 to R43.
+//! An executor of CMF 0.4 menus, the marker and records of sittings, written from the papers: document 01, section 7 of document
+//! 001, requests No. 1 and 2 of document 02, and the readings R1 to R33 and R40 to R47.
 //! Clear rather than fast: each call walks the whole image, and all the rest works on the menu that the walk found.
 
 #![allow(clippy::large_enum_variant)]
@@ -16,6 +16,7 @@ pub mod library;
 pub mod marker;
 pub mod picture;
 pub mod random;
+pub mod record;
 pub mod refusal;
 pub mod session;
 pub mod statistics;

@@ -2,8 +2,10 @@
 
 use crate::layout;
 use crate::marker::SUMS;
+use crate::record::read_record;
+use crate::refusal::{Refusal, ACCEPTED};
 use crate::session::Answer;
-use crate::vectors::{Executor, Outcome, Step, UNDRAWN, UNMARKED};
+use crate::vectors::{Executor, Outcome, Step, UNDRAWN, UNMARKED, UNPLAYED};
 
 /// HANDSET_SESSION_BYTES of the header, as build.rs read it.
 pub const SESSION_BYTES: &str = env!("HANDSET_SESSION_BYTES");
@@ -16,8 +18,9 @@ const FINISHED: u32 = 1 << 16;
 const FIRED: u32 = 1 << 17;
 /// Stands for a number that the header gives no meaning.
 const NO_ANSWER: u8 = u8::MAX;
-/// Numbers that stand behind the lent sums and must not be written.
+/// Numbers or bytes that stand behind what is lent and must not be written.
 const BEHIND: usize = 4;
+const UNWRITTEN: u8 = 0xAA;
 
 extern "C" {
     fn handset_open(
@@ -67,6 +70,21 @@ extern "C" {
         sums: *mut u32,
         sums_count: usize,
     ) -> u32;
+    fn handset_record(events: *const u8, events_len: usize, room: *mut u8, room_len: usize) -> u32;
+    fn handset_play(
+        image: *const u8,
+        image_len: usize,
+        sheet: *mut u8,
+        sheet_len: usize,
+        columns: u32,
+        lines: u32,
+        record: *const u8,
+        record_len: usize,
+        answers: *mut u32,
+        answers_count: usize,
+        session: *mut u8,
+        session_len: usize,
+    ) -> u32;
 }
 
 /// The library with what is lent to it.
@@ -75,23 +93,21 @@ pub struct Library {
     sheet: Vec<u8>,
     pub session: Vec<u8>,
     sums: usize,
-    /// Set when a refused event changed the session's bytes.
-    pub changed_when_refused: bool,
-    /// Set when a marking wrote behind the lent sums.
-    pub wrote_behind_sums: bool,
+    buffer: usize,
+    /// What the last call did that no answer shows.
+    pub fault: Option<&'static str>,
 }
 
 impl Library {
     pub fn new() -> Library {
         let bytes = SESSION_BYTES.parse().expect("a number");
         assert!(!layout::IS_DOCUMENTED || layout::LAYOUT.bytes == bytes, "the layout is not that of the header");
-        Library {
-            image: vec![],
-            sheet: vec![],
-            session: vec![0; bytes],
-            sums: SUMS,
-            changed_when_refused: false,
-            wrote_behind_sums: false,
+        Library { image: vec![], sheet: vec![], session: vec![0; bytes], sums: SUMS, buffer: bytes, fault: None }
+    }
+
+    fn fault_if(&mut self, met: bool, words: &'static str) {
+        if met {
+            self.fault = Some(words);
         }
     }
 
@@ -127,7 +143,8 @@ impl Library {
             )
         };
         let answer = answer_of(number);
-        self.changed_when_refused = matches!(answer, Answer::Refused(_)) && self.session != before;
+        let is_refused = matches!(answer, Answer::Refused(_));
+        self.fault_if(is_refused && self.session != before, "a refused event changed the session");
         Outcome::Answered(answer)
     }
 
@@ -180,9 +197,70 @@ impl Library {
                 self.sums,
             )
         };
-        self.wrote_behind_sums = sums[self.sums..] != [UNMARKED; BEHIND];
+        self.fault_if(sums[self.sums..] != [UNMARKED; BEHIND], "a marking wrote behind the lent sums");
         sums.truncate(self.sums);
         Outcome::Marked(refusal_of(number), sums)
+    }
+
+    fn record(&mut self, events: &[u8], room: &[u8]) -> Outcome {
+        let mut lent = [room, &[UNWRITTEN; BEHIND]].concat();
+        // SAFETY: as in `open`.
+        let number = unsafe { handset_record(events.as_ptr(), events.len(), lent.as_mut_ptr(), room.len()) };
+        self.fault_if(lent[room.len()..] != [UNWRITTEN; BEHIND], "a recording wrote behind the lent room");
+        lent.truncate(room.len());
+        let (refusal, length) = counted(number);
+        Outcome::Recorded(refusal, length, lent)
+    }
+
+    fn replay(&mut self, columns: usize, lines: usize, record: &[u8], count: usize) -> Outcome {
+        let sheet = self.sheet.clone();
+        let mut answers = vec![UNPLAYED; count + BEHIND];
+        let mut session = vec![UNWRITTEN; self.buffer + BEHIND];
+        // SAFETY: as in `open`.
+        let number = unsafe {
+            handset_play(
+                self.image.as_ptr(),
+                self.image.len(),
+                self.sheet.as_mut_ptr(),
+                self.sheet.len(),
+                columns as u32,
+                lines as u32,
+                record.as_ptr(),
+                record.len(),
+                answers.as_mut_ptr(),
+                count,
+                session.as_mut_ptr(),
+                self.buffer,
+            )
+        };
+        self.fault_if(answers[count..] != [UNPLAYED; BEHIND], "a playing wrote behind the lent list");
+        self.fault_if(session[self.buffer..] != [UNWRITTEN; BEHIND], "a playing wrote behind the lent session");
+        answers.truncate(count);
+        session.truncate(self.buffer);
+        let (refusal, events) = counted(number);
+        if self.buffer == self.session.len() {
+            self.session = session;
+        } else {
+            let is_written = session.iter().any(|&byte| byte != UNWRITTEN);
+            self.fault_if(is_written, "a playing wrote to a session of another length");
+        }
+        if refusal == ACCEPTED {
+            let same = self.sits_alike(sheet, columns, lines, record, &answers);
+            self.fault_if(!same, "a playing gave otherwise than its events one by one");
+        }
+        Outcome::Played(refusal, events, answers)
+    }
+
+    /// Whether Open on this sheet and the record's events give the same answers and, byte for byte, the same sheet and session.
+    fn sits_alike(&self, sheet: Vec<u8>, columns: usize, lines: usize, record: &[u8], answers: &[u32]) -> bool {
+        let Ok(events) = read_record(record) else { return false };
+        let mut other = Library { image: self.image.clone(), sheet, ..Library::new() };
+        other.open(columns, lines);
+        let answered = |(&event, &number): (&usize, &u32)| match other.event(event) {
+            Outcome::Answered(answer) => answer.number() == number,
+            _ => false,
+        };
+        events.iter().zip(answers).all(answered) && other.sheet == self.sheet && other.session == self.session
     }
 }
 
@@ -201,6 +279,15 @@ fn refusal_of(number: u32) -> u8 {
     }
 }
 
+/// A length or count, or 16,777,216 + refusal.
+fn counted(number: u32) -> (Refusal, usize) {
+    match number.checked_sub(REFUSED) {
+        None => (ACCEPTED, number as usize),
+        Some(refusal @ 1..=254) => (refusal as u8, 0),
+        Some(_) => (NO_ANSWER, 0),
+    }
+}
+
 fn answer_of(number: u32) -> Answer {
     match number {
         0 => Answer::Taken,
@@ -214,16 +301,20 @@ fn answer_of(number: u32) -> Answer {
 
 impl Executor for Library {
     fn play(&mut self, step: &Step) -> Outcome {
+        self.fault = None;
         match step {
             Step::Image(bytes) => self.image.clone_from(bytes),
             Step::Sheet(bytes) => self.sheet.clone_from(bytes),
             Step::Session(bytes) => self.session.clone_from(bytes),
             Step::Sums(count) => self.sums = *count,
+            Step::Buffer(length) => self.buffer = *length,
             Step::Open { columns, lines } => return self.open(*columns, *lines),
             Step::Event(event) => return self.event(*event),
             Step::Draw(length) => return self.draw(*length),
             Step::Text { place, item } => return self.text(*place, *item),
             Step::Mark(key) => return self.mark(key),
+            Step::Record { events, room } => return self.record(events, room),
+            Step::Play { columns, lines, record, answers } => return self.replay(*columns, *lines, record, *answers),
         }
         Outcome::Lent
     }

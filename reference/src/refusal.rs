@@ -20,7 +20,10 @@ pub const EVENT: Refusal = 13;
 pub const NO_ITEM: Refusal = 14;
 /// 02 No. 1.
 pub const KEY: Refusal = 15;
-/// A lent list is not of the length that a call needs.
+/// 02 No. 2.
+pub const RECORD: Refusal = 16;
+pub const OTHER_FORM: Refusal = 17;
+/// A lent list or room is not of the length that a call needs.
 pub const ROOM: Refusal = 25;
 
 /// `Err` with this refusal where `fault` holds.

@@ -56,6 +56,20 @@ pub enum Answer {
     Refused(u8),
 }
 
+impl Answer {
+    /// 02 No. 2: 0 taken, 1 flash, 65,536 or 131,072 plus the place for finished or fired. The C library has 16,777,216 plus the
+    /// refusal for a refused event.
+    pub fn number(&self) -> u32 {
+        match *self {
+            Answer::Taken => 0,
+            Answer::Flash => 1,
+            Answer::Finished(place) => 65_536 + place as u32,
+            Answer::Fired(place) => 131_072 + place as u32,
+            Answer::Refused(refusal) => 16_777_216 + u32::from(refusal),
+        }
+    }
+}
+
 impl Session {
     /// 01: what a refused Open returns; it never fits.
     pub fn closed() -> Session {

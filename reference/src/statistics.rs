@@ -1,8 +1,9 @@
-//! What sittings reached: refusals, answers, kinds visited, questions marked, and the turns that are met seldom.
+//! What sittings reached: refusals, answers, kinds visited, questions marked, records played, and the turns that are met seldom.
 
 use crate::image::Menu;
 use crate::keys::SECOND;
 use crate::marker::{questions, Fault, Question, Verdict};
+use crate::record::{self, read_record, HIGHEST_NUMBER};
 use crate::session::{Answer, Mode, Session};
 use crate::vectors::{Outcome, Reference, Step};
 use crate::walk::check;
@@ -41,6 +42,8 @@ const NAMES: [&str; 24] = [
 pub struct Statistics {
     pub sittings: usize,
     pub steps: usize,
+    /// How often what was sat was played again and gave the same.
+    pub replayed: usize,
     /// How often, by call and refusal.
     refusals: BTreeMap<(&'static str, u8), usize>,
     answers: BTreeMap<&'static str, usize>,
@@ -52,6 +55,8 @@ pub struct Statistics {
     verdicts: BTreeMap<&'static str, usize>,
     /// Refused keys by the first cause met.
     faults: BTreeMap<&'static str, usize>,
+    /// Records to play that are refused for themselves, by what is found first.
+    record_faults: BTreeMap<record::Fault, usize>,
     turns: BTreeMap<&'static str, usize>,
 }
 
@@ -77,6 +82,19 @@ impl Statistics {
                 self.turn_if(*refusal == 0 && sums.iter().all(|&sum| sum > 0), "marked with three sums above 0");
                 if let Ok(menu) = check(&after.image, after.sheet.len()) {
                     self.key(&menu, &after.sheet, key);
+                }
+            }
+            (Step::Record { events, room }, Outcome::Recorded(refusal, length, _)) => {
+                self.refusal("record", *refusal);
+                self.recording(events, room, *refusal, *length);
+            }
+            (Step::Play { columns, lines, record, .. }, Outcome::Played(refusal, events, answers)) => {
+                self.refusal("play", *refusal);
+                self.turn_if(*refusal == 1 && (*columns > 255 || *lines > 255), "played with a shape over 255");
+                match read_record(record) {
+                    Err(fault) => *self.record_faults.entry(fault).or_default() += 1,
+                    Ok(_) if *refusal == 0 => self.playing(*events, answers),
+                    Ok(_) => {}
                 }
             }
             (Step::Session(_), _) => {
@@ -129,6 +147,27 @@ impl Statistics {
             self.turn_if(!field.kind.in_range(&field.kind.load(&[question.right])), "right byte out of range");
             self.turn_if(!field.edit, "marked a field that is not editable");
         }
+    }
+
+    fn recording(&mut self, events: &[u8], room: &[u8], refusal: u8, length: usize) {
+        let is_good = refusal == 0;
+        self.turn_if(is_good && length == room.len(), "recorded in room exactly right");
+        self.turn_if(is_good && length < room.len(), "recorded in room with a rest");
+        self.turn_if(is_good && events.is_empty(), "recorded no events");
+        self.turn_if(is_good && events.len() == HIGHEST_NUMBER, "recorded 65,535 events");
+        self.turn_if(is_good && (128..HIGHEST_NUMBER).contains(&events.len()), "recorded 128 events or more");
+    }
+
+    /// Counts an accepted playing.
+    fn playing(&mut self, events: usize, answers: &[u32]) {
+        self.turn_if(events == answers.len(), "played into a list exactly right");
+        self.turn_if(events < answers.len(), "played into a list with a rest");
+        self.turn_if(events == 0, "played no events");
+        self.turn_if(events == HIGHEST_NUMBER, "played 65,535 events");
+        self.turn_if((128..HIGHEST_NUMBER).contains(&events), "played 128 events or more");
+        let is_met = |least: u32| answers[..events].iter().any(|answer| (least..2 * least).contains(answer));
+        self.turn_if(is_met(65_536), "played a finished visit");
+        self.turn_if(is_met(131_072), "played a trigger fired");
     }
 
     fn visit_key(&mut self, event: usize, before: &Session, after: &Reference, answer: &Answer) {
@@ -194,8 +233,8 @@ fn fault_name(menu: &Menu, sheet: &[u8], fault: Fault) -> &'static str {
 
 impl fmt::Display for Statistics {
     fn fmt(&self, out: &mut fmt::Formatter) -> fmt::Result {
-        writeln!(out, "{} sittings, {} steps", self.sittings, self.steps)?;
-        for call in ["open", "event", "draw", "option text", "mark"] {
+        writeln!(out, "{} sittings, {} steps, {} times played again", self.sittings, self.steps, self.replayed)?;
+        for call in ["open", "event", "draw", "option text", "mark", "record", "play"] {
             let total: usize = self.refusals.iter().filter(|((other, _), _)| *other == call).map(|(_, times)| times).sum();
             let accepted = self.refusals.get(&(call, 0)).copied().unwrap_or(0);
             write!(out, "{call}: {total}, accepted {:.1} %; refused", 100.0 * accepted as f64 / total.max(1) as f64)?;
@@ -207,6 +246,7 @@ impl fmt::Display for Statistics {
         writeln!(out, "answers: {:?}", self.answers)?;
         writeln!(out, "questions marked: {:?}", self.verdicts)?;
         writeln!(out, "keys refused: {:?}", self.faults)?;
+        writeln!(out, "records refused for themselves: {:?}", self.record_faults)?;
         writeln!(out, "events by depth of the table shown: {:?}", &self.depths[1..])?;
         writeln!(out, "keys in visits by kind (taken, flash, finished or fired):")?;
         for (name, [taken, flash, ended]) in &self.visits {

@@ -1,4 +1,5 @@
-//! What holds in every sitting: bytes of sessions read back, and the book of visits of 01 agrees with the sheet.
+//! What holds in every sitting: bytes of sessions read back, a record of it gives the same, and the book of visits of 01 agrees
+//! with the sheet.
 
 use reference::fields::Field;
 use reference::generator::sitting::{Plan, Sitting};
@@ -10,7 +11,8 @@ use reference::vectors::{Executor, Outcome, Reference, Step};
 use reference::walk::check;
 use std::collections::BTreeMap;
 
-const PLAN: Plan = Plan { forging: false, least_actions: 10, most_actions: 60, other_images: 0, wide: false, marking: false };
+const PLAN: Plan =
+    Plan { forging: false, least_actions: 10, most_actions: 60, other_images: 0, wide: false, marking: false, recording: false };
 
 #[test]
 fn session_bytes_read_back() {
@@ -23,6 +25,21 @@ fn session_bytes_read_back() {
             assert_eq!(session_from_bytes(&LAYOUT, &bytes), reference.session);
         }
     }
+}
+
+/// 02 No. 2: what was sat is recorded and played again, and gives the same sheet and session; `Watch` asserts it.
+#[test]
+fn sittings_played_again() {
+    let mut replayed = 0;
+    for number in 0..500 {
+        let mut sitting = Sitting::new(31, number, Plan { recording: true, wide: true, ..PLAN });
+        let mut reference = Reference::new();
+        while let Some(step) = sitting.next(&reference) {
+            reference.play(&step);
+        }
+        replayed += sitting.replayed();
+    }
+    assert!(replayed > 350);
 }
 
 /// 01 "The book of visits": fed the image, the events and the answers, nothing of the session.

@@ -12,7 +12,7 @@ const PROGRESS: u64 = 20_000;
 
 /// The sittings of a run; sessions are forged where they can be compared.
 const fn plan(forging: bool) -> Plan {
-    Plan { forging, least_actions: 0, most_actions: 40, other_images: 5, wide: true, marking: true }
+    Plan { forging, least_actions: 0, most_actions: 40, other_images: 5, wide: true, marking: true, recording: true }
 }
 
 /// The arguments behind LIB or --dry.
@@ -62,6 +62,7 @@ fn dry(run: &Run) {
             let outcome = reference.play(&step);
             statistics.count(&step, &before, &reference, &outcome);
         }
+        statistics.replayed += sitting.replayed();
         run.progress(number);
     }
     print!("{statistics}");
@@ -175,11 +176,8 @@ mod against {
         if reference.sheet() != library.sheet() {
             return Some(format!("sheet {}", to_hex(library.sheet())));
         }
-        if library.changed_when_refused {
-            return Some("a refused event changed the session".to_string());
-        }
-        if library.wrote_behind_sums {
-            return Some("a marking wrote behind the lent sums".to_string());
+        if let Some(fault) = library.fault {
+            return Some(fault.to_string());
         }
         let same = !layout::IS_DOCUMENTED || layout::session_from_bytes(&layout::LAYOUT, &library.session) == reference.session;
         (!same).then(|| format!("session {}", to_hex(&library.session)))

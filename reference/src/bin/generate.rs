@@ -8,7 +8,8 @@ use reference::vectors::{to_hex, write_line, Executor, Reference, Step};
 use std::io::{self, BufWriter, Write};
 use std::process::ExitCode;
 
-const PLAN: Plan = Plan { forging: false, least_actions: 10, most_actions: 30, other_images: 12, wide: false, marking: true };
+const PLAN: Plan =
+    Plan { forging: false, least_actions: 10, most_actions: 30, other_images: 12, wide: false, marking: true, recording: true };
 
 /// Prints one case, with the sheet wherever a call changed it.
 fn print_case(out: &mut impl Write, seed: u64, number: u64, statistics: &mut Statistics) -> io::Result<()> {
@@ -28,6 +29,7 @@ fn print_case(out: &mut impl Write, seed: u64, number: u64, statistics: &mut Sta
             writeln!(out, "sheetis {}", to_hex(&reference.sheet))?;
         }
     }
+    statistics.replayed += sitting.replayed();
     Ok(())
 }
 
@@ -43,7 +45,7 @@ fn main() -> io::Result<ExitCode> {
         print_case(&mut out, seed, number, &mut statistics)?;
     }
     eprint!("{statistics}");
-    for refusal in (1..=15).filter(|&refusal| statistics.refused(refusal) == 0) {
+    for refusal in (1..=17).chain([25]).filter(|&refusal| statistics.refused(refusal) == 0) {
         eprintln!("refusal {refusal} is not among them");
     }
     Ok(ExitCode::SUCCESS)

@@ -4,6 +4,8 @@
 use super::flaws::{contents, damaged, flawed, flawed_and_damaged, good, junk, Material};
 use super::forging::forged;
 use super::marking::{answered, any_key};
+use super::replaying::Replays;
+use super::watching::Watch;
 use crate::fields::Kind;
 use crate::image::Menu;
 use crate::keys::*;
@@ -23,10 +25,13 @@ pub struct Plan {
     pub most_actions: usize,
     /// In how many of a thousand actions another image is lent.
     pub other_images: usize,
-    /// Whether columns, lines and events may be numbers that no byte holds, and sums other than three.
+    /// Whether columns, lines and events may be numbers that no byte holds, sums other than three, a session's bytes others than
+    /// its own, and lists of events at the limit.
     pub wide: bool,
     /// Whether sheets are marked: now and then, and at the end.
     pub marking: bool,
+    /// Whether the sitting is recorded and played again: now and then, and at the end.
+    pub recording: bool,
 }
 
 pub struct Sitting {
@@ -38,6 +43,9 @@ pub struct Sitting {
     left: usize,
     /// Whether the sheet is still to be marked as the actions left it.
     is_to_mark: bool,
+    /// Whether the sitting is still to be recorded.
+    is_to_record: bool,
+    watch: Watch,
     menu: Option<Menu>,
     menu_is_known: bool,
 }
@@ -61,22 +69,35 @@ impl Sitting {
         }
         waiting.push_back(Step::Open { columns, lines });
         let left = random.edgy(plan.least_actions as i64, plan.most_actions as i64) as usize;
-        Sitting { random, plan, material, waiting, left, is_to_mark: plan.marking, menu: None, menu_is_known: false }
+        let (is_to_mark, is_to_record) = (plan.marking, plan.recording);
+        let watch = Watch::default();
+        Sitting { random, plan, material, waiting, left, is_to_mark, is_to_record, watch, menu: None, menu_is_known: false }
+    }
+
+    /// How often what was sat was played again; that it gave the same is asserted.
+    pub fn replayed(&self) -> usize {
+        self.watch.replayed
     }
 
     /// The next step, by what the steps before made of the reference.
     pub fn next(&mut self, reference: &Reference) -> Option<Step> {
+        if self.plan.recording {
+            self.watch.after(reference);
+        }
         if self.waiting.is_empty() {
             self.go_on(reference);
         }
-        let step = self.waiting.pop_front();
-        if matches!(step, Some(Step::Image(_) | Step::Sheet(_))) {
+        let step = self.waiting.pop_front()?;
+        if matches!(step, Step::Image(_) | Step::Sheet(_)) {
             self.menu_is_known = false;
         }
-        step
+        if self.plan.recording {
+            self.watch.before(&step, reference);
+        }
+        Some(step)
     }
 
-    /// Acts, or marks the sheet as the last action left it.
+    /// Acts, or marks the sheet as the last action left it, or records what was sat.
     fn go_on(&mut self, reference: &Reference) {
         if self.left > 0 {
             self.left -= 1;
@@ -84,6 +105,9 @@ impl Sitting {
         } else if self.is_to_mark {
             self.is_to_mark = false;
             self.last_marks(reference);
+        } else if self.is_to_record {
+            self.is_to_record = false;
+            self.last_records(reference);
         }
     }
 
@@ -102,6 +126,9 @@ impl Sitting {
         }
         if self.plan.marking && self.random.once_in(25) {
             return self.mark(&reference.image, &reference.sheet);
+        }
+        if self.plan.recording && self.random.once_in(40) {
+            return self.records(reference);
         }
         match self.random.below(1000) {
             0..=599 if self.menu.is_some() && !fits => {
@@ -212,6 +239,22 @@ impl Sitting {
         }
     }
 
+    /// Records what was sat so far and plays a record; the sitting goes on from there.
+    fn records(&mut self, reference: &Reference) {
+        let ended = self.watch.longest(reference).filter(|ended| ended.sat.image == reference.image);
+        let mut replays = Replays::new(&mut self.random, self.plan.wide);
+        replays.midway(reference, ended.as_ref());
+        self.waiting.extend(replays.steps);
+    }
+
+    /// Records what was sat, plays it again on a fresh sheet, and plays what is damaged.
+    fn last_records(&mut self, reference: &Reference) {
+        let ended = self.watch.longest(reference);
+        let mut replays = Replays::new(&mut self.random, self.plan.wide);
+        replays.at_the_end(reference, ended.as_ref());
+        self.waiting.extend(replays.steps);
+    }
+
     /// The same length with other contents, seldom another length.
     fn other_sheet(&mut self, reference: &Reference) {
         let length = match self.random.below(15) {
@@ -248,7 +291,7 @@ fn far(random: &mut Random, number: usize) -> usize {
 }
 
 /// Good images mostly.
-fn material(random: &mut Random) -> Material {
+pub fn material(random: &mut Random) -> Material {
     let refusal = random.within(2, 11) as u8;
     match random.below(100) {
         0..=79 => good(random),
@@ -261,13 +304,13 @@ fn material(random: &mut Random) -> Material {
 }
 
 /// A number of 32 bits with this low byte that no byte holds.
-fn widened(random: &mut Random, low: usize) -> usize {
+pub fn widened(random: &mut Random, low: usize) -> usize {
     let above = *random.pick(&[1, 2, 0xFF, 0x100, 0xFF_FFFF]);
     256 * above + low
 }
 
 /// Columns and lines: legal ones mostly.
-fn shape(random: &mut Random, wide: bool) -> (usize, usize) {
+pub fn shape(random: &mut Random, wide: bool) -> (usize, usize) {
     if wide && random.once_in(40) {
         let (columns, lines) = shape(random, false);
         return match random.below(3) {
