@@ -2,6 +2,7 @@
 // program over it has its cases in its `stdin`, and in its `stdout` the lines that the gate compares.
 mod marking;
 mod playing;
+mod recording;
 
 use field::kind::ImagePlace;
 use handset::draw::draw;
@@ -18,7 +19,8 @@ use session_bytes::read::read_session;
 use walk::check::check;
 
 // A case: check an image, ask for an option's text, open an image on a sheet of bytes 0xEE, draw a session on
-// a picture of bytes 0xEE, play a list of events from Open on, step a session by one event, or mark a sheet.
+// a picture of bytes 0xEE, play a list of events from Open on, step a session by one event, mark a sheet,
+// record a list of events in room of bytes 0xEE, or play a record from Open on.
 const CHECK: u8 = 1;
 
 const TEXT: u8 = 2;
@@ -32,6 +34,10 @@ const PLAY: u8 = 5;
 const STEP: u8 = 6;
 
 const MARK: u8 = 7;
+
+const RECORD: u8 = 8;
+
+const REPLAY: u8 = 9;
 
 // The longest picture that a case can have.
 const PICTURE: usize = 256;
@@ -92,7 +98,7 @@ fn run_text(image: &[u8], sheet: &[u8], place: usize, item: usize) {
     print_hex(text);
 }
 
-// Every byte of a sheet or picture 0xEE.
+// Every byte of a sheet, picture or room 0xEE.
 fn fill(sheet: &mut [u8]) {
     let mut i = 0;
     while i < sheet.len() {
@@ -172,8 +178,8 @@ fn run_draw(image: &[u8], sheet: &mut [u8]) {
     run_drawn_on(image, sheet, session, &mut picture, length);
 }
 
-// Runs an operation on image and sheet; Open and a list of events take columns and lines in place of place
-// and item.
+// Runs an operation on image and sheet; Open, a list of events and a record take columns and lines in place
+// of place and item, and recording takes events and room in place of image and sheet.
 fn run(op: u8, image: &[u8], sheet: &mut [u8], place: usize, item: usize) {
     match op {
         CHECK => run_check(image, sheet),
@@ -183,6 +189,8 @@ fn run(op: u8, image: &[u8], sheet: &mut [u8], place: usize, item: usize) {
         PLAY => playing::run_play(image, sheet, (place % 256) as u8, (item % 256) as u8),
         STEP => playing::run_step(image, sheet),
         MARK => marking::run_mark(image, sheet),
+        RECORD => recording::run_record(image, sheet),
+        REPLAY => recording::run_replay(image, sheet, (place % 256) as u8, (item % 256) as u8),
         _ => (),
     }
 }

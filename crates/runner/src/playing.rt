@@ -92,16 +92,21 @@ fn start(image: &[u8], sheet: &mut [u8], columns: u8, lines: u8) -> Session {
     session
 }
 
+// The sheet that a list of events left, and what Draw answers on the session that it left.
+pub fn print_end(image: &[u8], sheet: &[u8], session: Session, columns: u8, lines: u8) {
+    print_hex(sheet);
+    print_space();
+    let mut picture = [0u8; PICTURE];
+    run_drawn_on(image, sheet, session, &mut picture, area(columns, lines));
+}
+
 // Open's refusal, each event's answer, the sheet afterwards, and what Draw then answers.
 pub fn run_play(image: &[u8], sheet: &mut [u8], columns: u8, lines: u8) {
     let mut events = [0u8; MOST];
     let count = read_events(&mut events);
     let opened = start(image, &mut *sheet, columns, lines);
     let session = play_on(image, &mut *sheet, opened, &events, count);
-    print_hex(sheet);
-    print_space();
-    let mut picture = [0u8; PICTURE];
-    run_drawn_on(image, sheet, session, &mut picture, area(columns, lines));
+    print_end(image, sheet, session, columns, lines);
 }
 
 fn print_session(session: Session) {
