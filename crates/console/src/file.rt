@@ -1,5 +1,11 @@
-// Files that the arguments name. What cannot be opened or read is said in one line on standard error.
+// Files that the arguments name. What cannot be opened, read or written is said in one line on standard
+// error, unless it is read quietly.
+use cmf::image::Image;
 use libc::STDERR_FILENO;
+use libc::STDIN_FILENO;
+
+// Room for an image: one byte more than it may have, so that a longer file is refused.
+pub const IMAGE_ROOM: usize = Image::MAX_BYTES + 1;
 
 // Whether a file was read to its end, or as far as there was room, and how many bytes came.
 pub struct Found {
@@ -21,7 +27,17 @@ fn say_usage(usage: &[u8]) {
     io::write_all(STDERR_FILENO, usage);
 }
 
-// Opens the file that argument i names.
+// Opens a file; `-` is standard input.
+fn open_or_standard(name: &[u8]) -> i32 {
+    if name.len() == 1 {
+        if name[0] == b'-' {
+            return STDIN_FILENO;
+        }
+    }
+    open(name)
+}
+
+// Opens the file that argument i names; `-` is standard input.
 pub fn open_named(i: usize, usage: &[u8]) -> i32 {
     let mut name = io::buffer();
     let length = os::arg(i, &mut name);
@@ -29,7 +45,7 @@ pub fn open_named(i: usize, usage: &[u8]) -> i32 {
         say_usage(usage);
         return -1;
     }
-    open(&name[..length])
+    open_or_standard(&name[..length])
 }
 
 // Nothing was read, or not all.
@@ -41,12 +57,11 @@ fn failed() -> Found {
 }
 
 // Reads to the start of a buffer until it is full or the file ends.
-fn read_all(fd: i32, name: &[u8], buffer: &mut [u8]) -> Found {
+fn read_all(fd: i32, buffer: &mut [u8]) -> Found {
     let mut count = 0;
     while count < buffer.len() {
         let got = libc::read(fd, &mut buffer[count..]);
         if got < 0 {
-            os::fail(name);
             return failed();
         }
         let more = io::count(got, &buffer[count..]);
@@ -64,7 +79,10 @@ fn read(name: &[u8], buffer: &mut [u8]) -> Found {
     if fd < 0 {
         return failed();
     }
-    let found = read_all(fd, name, &mut *buffer);
+    let found = read_all(fd, &mut *buffer);
+    if !found.whole {
+        os::fail(name);
+    }
     libc::close(fd);
     found
 }
@@ -78,6 +96,52 @@ pub fn read_named(i: usize, buffer: &mut [u8], usage: &[u8]) -> Found {
         return failed();
     }
     read(&name[..length], &mut *buffer)
+}
+
+// The same as read, and nothing is said.
+fn read_quietly(name: &[u8], buffer: &mut [u8]) -> Found {
+    let fd = os::open_read(name);
+    if fd < 0 {
+        return failed();
+    }
+    let found = read_all(fd, &mut *buffer);
+    libc::close(fd);
+    found
+}
+
+// Reads the file that argument i names, and says nothing: what is missing or fails is empty.
+pub fn read_named_quietly(i: usize, buffer: &mut [u8]) -> Found {
+    let mut name = io::buffer();
+    let length = os::arg(i, &mut name);
+    if os::errno() != 0 {
+        return failed();
+    }
+    read_quietly(&name[..length], &mut *buffer)
+}
+
+// Writes a file, which is created or overwritten.
+fn write(name: &[u8], bytes: &[u8]) {
+    let fd = os::open_overwrite(name);
+    if fd < 0 {
+        os::fail(name);
+        return;
+    }
+    let whole = io::write_all(fd, bytes);
+    if !whole {
+        os::fail(name);
+    }
+    libc::close(fd);
+}
+
+// Writes the file that argument i names.
+pub fn write_named(i: usize, bytes: &[u8], usage: &[u8]) {
+    let mut name = io::buffer();
+    let length = os::arg(i, &mut name);
+    if os::errno() != 0 {
+        say_usage(usage);
+        return;
+    }
+    write(&name[..length], bytes);
 }
 
 // What was found, at the start of a buffer.

@@ -1,3 +1,5 @@
-// What the programs share: the files that their arguments name, and words for a terminal.
+// What the programs share: the display, the files that their arguments name, and words for a terminal.
+pub mod display;
+pub mod events;
 pub mod file;
 pub mod words;

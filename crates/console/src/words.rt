@@ -10,6 +10,16 @@ pub fn say_number(number: usize) {
     io::print_decimal(STDOUT_FILENO, number as u64);
 }
 
+// So many of something, which a noun names.
+pub fn say_count(number: usize, noun: &[u8]) {
+    say_number(number);
+    say(b" ");
+    say(noun);
+    if number != 1 {
+        say(b"s");
+    }
+}
+
 // A byte that a terminal shows; '?' for any other.
 fn shown(byte: u8) -> u8 {
     match byte {
@@ -50,6 +60,9 @@ fn say_meaning(number: u8) {
         15 => say(
             b"the key ends inside a question, or has one that does not fit the image's fields",
         ),
+        16 => say(b"this is no record, or it has more than 65,535 events"),
+        17 => say(b"the record is of another form"),
+        25 => say(b"there is too little room"),
         _ => say(b"no meaning"),
     }
 }

@@ -7,12 +7,11 @@ mod report;
 mod trim;
 
 use cmf::image::Image;
+use console::file::IMAGE_ROOM;
 use console::file::found_in;
 use console::file::read_named;
 
-// One byte more than an image and a sheet may have, so that a longer file is refused.
-const IMAGE_ROOM: usize = Image::MAX_BYTES + 1;
-
+// One byte more than a sheet may have, so that a longer file is refused.
 const SHEET_ROOM: usize = Image::MAX_SHEET + 1;
 
 const USAGE: [u8; 28] = *b"usage: mark IMAGE SHEET KEY\n";

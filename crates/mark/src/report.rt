@@ -4,6 +4,7 @@ use crate::path::say_path;
 use cmf::component::read_component;
 use cmf::place::Found;
 use console::words::say;
+use console::words::say_count;
 use console::words::say_number;
 use field::kind::ImagePlace;
 use field::kind::SheetPlace;
@@ -39,12 +40,8 @@ fn say_verdict(verdict: Verdict) {
 }
 
 fn say_points(points: usize) {
-    say_number(points);
-    if points == 1 {
-        say(b" point\n");
-        return;
-    }
-    say(b" points\n");
+    say_count(points, b"point");
+    say(b"\n");
 }
 
 // A question whose field is at an image place, by the byte that the sheet has for it.

@@ -1,14 +1,14 @@
-// The keys of a sitting: letters that stand for the handset's keys, read one by one and played. A line's end
-// shows the picture.
+// The keys of a sitting: letters that stand for the handset's keys, read one by one, played and noted. A
+// line's end shows the picture.
 use crate::show::show;
-use crate::words::print_answer;
-use crate::words::print_key;
+use console::events::say_answer;
+use console::events::say_key;
 use console::words::say;
 use handset::event::event;
 use session::session::Session;
 
 // The most bytes of keys that are played.
-const MOST: usize = 65536;
+pub const MOST: usize = 65536;
 
 // What is no key.
 const NONE: u8 = 255;
@@ -53,8 +53,8 @@ fn event_of(letter: u8) -> u8 {
 fn step(image: &[u8], sheet: &mut [u8], session: Session, number: u8) -> Session {
     let stepped = event(image, &mut *sheet, session, number);
     let answer = stepped.answer;
-    print_key(number);
-    print_answer(answer);
+    say_key(number);
+    say_answer(answer.number());
     stepped.session
 }
 
@@ -69,6 +69,19 @@ fn play(image: &[u8], sheet: &mut [u8], session: Session, letter: u8) -> Session
         return session;
     }
     step(image, &mut *sheet, session, number)
+}
+
+// Notes the event that a letter stands for, after so many in a list; answers how many there are then.
+fn note(events: &mut [u8], count: usize, letter: u8) -> usize {
+    let number = event_of(letter);
+    if number == NONE {
+        return count;
+    }
+    if count < events.len() {
+        events[count] = number;
+        return count + 1;
+    }
+    count
 }
 
 // The picture at the end of keys whose last line has no end.
@@ -99,9 +112,17 @@ fn say_failed(key: Key) {
     }
 }
 
-// Plays the keys of a descriptor, each on the session and sheet that the one before it left.
-pub fn play_all(image: &[u8], sheet: &mut [u8], start: Session, fd: i32) {
+// Plays the keys of a descriptor, each on the session and sheet that the one before it left. Their events go
+// to the start of a lent list; answers how many they are.
+pub fn play_all(
+    image: &[u8],
+    sheet: &mut [u8],
+    start: Session,
+    fd: i32,
+    events: &mut [u8],
+) -> usize {
     let mut session = start;
+    let mut count = 0;
     let mut ended = true;
     let mut left = MOST;
     while 0 < left {
@@ -109,12 +130,14 @@ pub fn play_all(image: &[u8], sheet: &mut [u8], start: Session, fd: i32) {
         let Key::Byte(letter) = key else {
             end(image, sheet, session, ended);
             say_failed(key);
-            return;
+            return count;
         };
         session = play(image, &mut *sheet, session, letter);
+        count = note(&mut *events, count, letter);
         ended = letter == NEWLINE;
         left = left - 1;
     }
     end(image, sheet, session, ended);
     say_rest(fd);
+    count
 }

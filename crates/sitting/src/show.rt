@@ -1,19 +1,14 @@
 // The display in a frame. In a visit the cursor line has a line below it, outside the frame, with '^' under
 // the cell that the edit cursor is on.
+use console::display::CELLS;
+use console::display::ROWS;
+use console::display::WIDTH;
 use console::words::say;
 use console::words::say_plain;
 use console::words::say_refusal;
 use handset::draw::draw;
 use picture::cursor::EditCursor;
 use session::session::Session;
-
-pub const COLUMNS: u8 = 20;
-
-pub const LINES: u8 = 4;
-
-const WIDTH: usize = COLUMNS as usize;
-
-const ROWS: usize = LINES as usize;
 
 fn print_edge() {
     say(b"+--------------------+\n");
@@ -76,7 +71,7 @@ fn print_drawn(refusal: u8, cursor: EditCursor, picture: &[u8]) {
 
 // The picture of a session.
 pub fn show(image: &[u8], sheet: &[u8], session: Session) {
-    let mut picture = [0u8; WIDTH * ROWS];
+    let mut picture = [0u8; CELLS];
     let drawn = draw(image, sheet, session, &mut picture);
     let cursor = drawn.cursor;
     print_drawn(drawn.refusal, cursor, &picture);

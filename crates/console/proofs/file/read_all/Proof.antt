@@ -8,10 +8,10 @@ use Rattle.console.proofs.file.read_all.Statement.{statement}
 use Rattle.console.proofs.file.read_all.Tie as tie
 
 abbrev Inv-loop : tie.InvT-loop
-Inv-loop fd name buffer₀ count₀ buffer count = (count ≤ length buffer) × (length buffer ≡ length buffer₀)
+Inv-loop fd buffer₀ count₀ buffer count = (count ≤ length buffer) × (length buffer ≡ length buffer₀)
 
 abbrev μ-loop : tie.MeasureT-loop
-μ-loop fd name buffer₀ count₀ buffer count = length buffer - count
+μ-loop fd buffer₀ count₀ buffer count = length buffer - count
 
 loop-holds : tie.Need-loop-holds Inv-loop μ-loop
 loop-holds c = omega arith
@@ -27,9 +27,6 @@ part-read-end c = omega arith
 
 read-requires : tie.Need-read-requires Inv-loop μ-loop
 read-requires c κs = search needs
-
-fail-requires : tie.Need-fail-requires Inv-loop μ-loop
-fail-requires c κs = search needs
 
 failed-requires : tie.Need-failed-requires Inv-loop μ-loop
 failed-requires c κs = search needs
@@ -84,7 +81,6 @@ read-all-spec =
     part-read-start
     part-read-end
     read-requires
-    fail-requires
     failed-requires
     same-length
     returns
