@@ -182,7 +182,7 @@ SITTING = [
 '''),
 ]
 
-# The fields in the order of the walk: image place, sheet place, bytes in hex, and an option's item.
+# The fields in the order of the walk: image place, sheet place, bytes in hex, and an option's item after a blank.
 HEARD = {1: 'hiss', 2: 'hiss', 3: 'drip', 4: 'flow', 25: 'drip'}
 ITEMS = ['none', 'hiss', 'drip', 'flow']
 def point(n):
@@ -190,25 +190,28 @@ def point(n):
     # option; the last line has no next-line-ofs, so its option stands 2 bytes nearer.
     k, item = (n - 1) % 10, HEARD.get(n, 'none')
     place = 344 + 486 * ((n - 1) // 10) + 48 * k - (2 if k == 9 else 0)
-    return place, n - 1, f'{ITEMS.index(item):02x} {item}'
-FIELDS = [(266, 64, 'ac 28'), (288, 66, '05 03 ea 07'), (310, 70, '0a 05'), *map(point, range(1, 41)),
-          (124, None, None), (132, 76, 'fa ff'), (172, 72, '0a 00 00 00'), (2286, 80, '25'), (2306, 81, '01 yes')]
+    return place, n - 1, f'{ITEMS.index(item):02x}', ' ' + item
+FIELDS = [(266, 64, 'ac 28', ''), (288, 66, '05 03 ea 07', ''), (310, 70, '0a 05', ''), *map(point, range(1, 41)),
+          (124, None, None, ''), (132, 76, 'fa ff', ''), (172, 72, '0a 00 00 00', ''), (2286, 80, '25', ''),
+          (2306, 81, '01', ' yes')]
 
 KEYS = {'u': 'UP', 'd': 'DOWN', 'l': 'LEFT', 'r': 'RIGHT', 'e': 'ENTER', 's': 'one second', '.': 'POINT'}
 EDGE = '+' + '-' * 20 + '+'
 def framed(picture): return [EDGE, *picture.strip('\n').split('\n'), EDGE]
 def answer(a):
     return {'t': 'taken', 'f': 'flash', '=': 'finished at place ', '!': 'fired at place '}[a[0]] + a[1:]
-def line_of(place, sheet, data):
-    return f'image place {place}' + (': a trigger, no bytes' if sheet is None else f', sheet place {sheet}: {data}')
+def line_of(place, sheet, data, item):
+    return f'image place {place}' + (': a trigger, no bytes' if sheet is None else f', sheet place {sheet}: {data}{item}')
+
+def played(keys): return [k for k in keys if k in KEYS or k.isdigit()]
+def told(keys, answers):
+    assert len(played(keys)) == len(answers.split()), keys
+    return [f'{KEYS.get(k, k)}: {answer(a)}' for k, a in zip(played(keys), answers.split())]
 
 def stdout():
     out = framed(START)
     for keys, answers, picture in SITTING:
-        played, answers = [k for k in keys if k in KEYS or k.isdigit()], answers.split()
-        assert len(played) == len(answers), keys
-        out += [f'{KEYS.get(k, k)}: {answer(a)}' for k, a in zip(played, answers)]
-        out += framed(picture)
+        out += told(keys, answers) + framed(picture)
     return '\n'.join(out + [line_of(*f) for f in FIELDS]) + '\n'
 
 if __name__ == '__main__':
