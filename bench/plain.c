@@ -1,7 +1,8 @@
-/* A plain C menu executor for CMF 0.4: the four calls of handset.h and the marker of desk.h, written for speed.
+/* A plain C menu executor for CMF 0.4: the four calls of handset.h and those of desk.h, written for speed.
  *
- * plain_check.c has the format and the check (refusals 2 to 11), plain_draw.c the picture, plain_mark.c the marker; here are the
- * values of fields, the session and whether it fits, keys and seconds, and the calls. A place is an offset into the image.
+ * plain_check.c has the format and the check (refusals 2 to 11), plain_draw.c the picture, plain_mark.c the marker, plain_record.c
+ * records; here are the values of fields, the session and whether it fits, keys and seconds, and the calls. A place is an offset into
+ * the image.
  * Build: gcc -O2 -c plain.c
  */
 #include "../include/desk.h"
@@ -496,24 +497,48 @@ static void write_defaults(const uint8_t *image, uint8_t *sheet, const uint16_t 
     }
 }
 
-uint32_t handset_open(const uint8_t *image, size_t image_len, uint8_t *sheet, size_t sheet_len, uint32_t columns, uint32_t lines,
-                      uint8_t *session, size_t session_len)
+/* The refusal of an opening, 0 for none; a closed session in the buffer, if it has the right length, where it is refused. */
+static unsigned begin(const uint8_t *image, size_t image_len, uint8_t *sheet, size_t sheet_len, uint32_t columns, uint32_t lines,
+                      uint8_t *session, size_t session_len, struct session *s)
 {
-    struct session s = {.columns = (uint8_t)columns, .lines = (uint8_t)lines};
     uint16_t list[FIELDS_MOST];
     unsigned first;
     unsigned refusal = BAD_SHAPE;
 
     if (columns - 14u <= 6 && lines - 2u <= 2) refusal = check_and_list(image, image_len, sheet_len, list, &first);
-    if (session_len != HANDSET_SESSION_BYTES) return HANDSET_REFUSED + (refusal ? refusal : NO_FIT);
+    if (session_len != HANDSET_SESSION_BYTES) return refusal ? refusal : NO_FIT;
     if (refusal) {
         session[offsetof(struct session, depth)] = 0; /* closed */
-        return HANDSET_REFUSED + refusal;
+        return refusal;
     }
     write_defaults(image, sheet, list, first);
-    show_table(&s, PROLOG);
+    *s = (struct session){.columns = (uint8_t)columns, .lines = (uint8_t)lines};
+    show_table(s, PROLOG);
+    return 0;
+}
+
+uint32_t handset_open(const uint8_t *image, size_t image_len, uint8_t *sheet, size_t sheet_len, uint32_t columns, uint32_t lines,
+                      uint8_t *session, size_t session_len)
+{
+    struct session s;
+    unsigned refusal = begin(image, image_len, sheet, sheet_len, columns, lines, session, session_len, &s);
+
+    if (refusal) return HANDSET_REFUSED + refusal;
     memcpy(session, &s, sizeof s);
     return 0;
+}
+
+/* An event on a session that fits. */
+INLINE uint32_t step(const uint8_t *image, uint8_t *sheet, struct session *s, const struct here *here, unsigned event)
+{
+    if (event == HANDSET_SECOND) {
+        second(image, s);
+        return HANDSET_TAKEN;
+    }
+    s->idle = 0;
+    if (s->mode == BROWSING) return browse_key(here, sheet, s, event);
+    if (s->mode == VISIT) return visit_key(image, sheet, s, event);
+    return entry_key(here, s, event);
 }
 
 uint32_t handset_event(const uint8_t *image, size_t image_len, uint8_t *sheet, size_t sheet_len, uint8_t *session,
@@ -521,7 +546,7 @@ uint32_t handset_event(const uint8_t *image, size_t image_len, uint8_t *sheet, s
 {
     struct session s;
     struct here here;
-    uint32_t answer = HANDSET_TAKEN;
+    uint32_t answer;
     unsigned refusal = check_image(image, image_len, sheet_len);
 
     if (refusal) return HANDSET_REFUSED + refusal;
@@ -529,17 +554,7 @@ uint32_t handset_event(const uint8_t *image, size_t image_len, uint8_t *sheet, s
     memcpy(&s, session, sizeof s);
     if (!fits(image, &s, &here)) return HANDSET_REFUSED + NO_FIT;
     if (event > HANDSET_SECOND) return HANDSET_REFUSED + BAD_EVENT;
-    if (event == HANDSET_SECOND) {
-        second(image, &s);
-    } else {
-        s.idle = 0;
-        if (s.mode == BROWSING)
-            answer = browse_key(&here, sheet, &s, event);
-        else if (s.mode == VISIT)
-            answer = visit_key(image, sheet, &s, event);
-        else
-            answer = entry_key(&here, &s, event);
-    }
+    answer = step(image, sheet, &s, &here, event);
     memcpy(session, &s, sizeof s);
     return answer;
 }
@@ -583,3 +598,7 @@ uint64_t handset_option_text(const uint8_t *image, size_t image_len, const uint8
 /* ---- The marker: handset_mark ---- */
 
 #include "plain_mark.c"
+
+/* ---- Records: handset_record and handset_play ---- */
+
+#include "plain_record.c"
