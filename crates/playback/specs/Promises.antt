@@ -55,7 +55,7 @@ module _ (im sheet : List ℕ) (columns lines : ℕ) where
 
   -- a replay that is not refused
   pub record Replays (rec list : List ℕ) : Type 0 where
-    -- (by definition, but for the list: theorem) it gives what its events give after Open
+    -- (theorem, for the list; by definition, for the rest) it gives what its events give after Open
     pub gives : Gives rec list (eventsOf rec)
     -- (by definition) Open is not refused
     pub opened : openRefusal im (length sheet) columns lines ≡ 0

@@ -28,7 +28,7 @@ fn refused(refusal: u8) -> Replayed
     }
 }
 
-// Looks a record through, and whether a list of so many has room for the answers to its events.
+// Looks a record through, and then tests that a list of so many entries has room for its answers.
 pub fn check_listed(recorded: &[u8], room: usize) -> Checked
     ensures { λ r. ⌜ r ≡ listed (now (recorded .entry)) room ⌝ }
 {
