@@ -54,7 +54,7 @@ fn read_head(bytes: &[u8]) -> Head
     Head::Events(n as usize, next)
 }
 
-// Whether all so far were events, and a number is one too.
+// Whether all numbers so far were events, and this one is too.
 fn still(known: bool, x: u16) -> bool
     ensures { λ r. ⌜ r ≡ known and (x ≤? second) ⌝ }
 {
@@ -64,8 +64,8 @@ fn still(known: bool, x: u16) -> bool
     false
 }
 
-// Why so many numbers from a place on to the end are refused, 0 for not at all: that the rules are broken,
-// wherever it is, comes before a bad event.
+// The refusal number, 0 for none, of so many numbers from a place on, which must end the bytes. Broken rules
+// come before a bad event, wherever they are, so that all numbers are read.
 fn scan(bytes: &[u8], at: usize, count: usize) -> u8
     ensures { λ r. ⌜ r ≡ eventsRefusal count (now (bytes .entry)) at ⌝ }
 {
