@@ -10,9 +10,8 @@ use Rattle.laws.proofs.Cases.{if-ind, if-eq}
 use Rattle.picture.specs.Rows.{pictureOf}
 use Rattle.handset.specs.Open.{openRefusal}
 use Rattle.handset.specs.Draw.{drawRefusal, drawnPicture}
-use Rattle.handset.proofs.Drawing.{drawn-picture}
 use Rattle.handset.proofs.Ordering.{none-before}
-use Rattle.promises.proofs.Promises.{demand-3}
+use Rattle.promises.proofs.Promises as executor
 use Rattle.record.specs.Forms.{eventsOf}
 use Rattle.playback.specs.Replay.{playRefusal, replayed, playAnswer, playSheet}
 use Rattle.playback.specs.declared.play.Replayed.{Replayed}
@@ -48,10 +47,10 @@ module _ (im sheet rec : List ℕ) where
     drawable : drawRefusal im (length end) (answer .session) 80 ≡ 0
     drawable =
         rw (session-is, sheet-is)
-        (demand-3 im .never-refused (record { sheet = sheet; columns = 20; lines = 4; events = eventsOf rec; accepted = opened }) .draw)
+        (executor.promises .sittings im .never-refused (record { sheet = sheet; columns = 20; lines = 4; events = eventsOf rec; accepted = opened }) .draw)
 
     last-drawn : (picture : List ℕ) → length picture ≡ 80 → drawnPicture im end (answer .session) picture ≡ pictureOf im end (answer .session)
-    last-drawn picture l = sym (drawn-picture im end (answer .session) picture 0 (rw l (sym drawable)) refl)
+    last-drawn picture l = executor.promises .rules im .draws end (answer .session) picture (rw l drawable) .draws
 
   -- what play and Draw ensure, with a list of so many
   module _ (picture : List ℕ) (room : ℕ) (r : Replayed) (after last : List ℕ) (n : room ≡ 16000) (a : r ≡ playAnswer im sheet 20 4 rec room)
