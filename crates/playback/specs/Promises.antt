@@ -16,7 +16,8 @@ use Rattle.journal.specs.Sitting.{Sitting, begunWith, played, answeredIn}
 use Rattle.promises.specs.Unrefused.{NothingRefused}
 use Rattle.promises.specs.Demand3.{Candidate, end}
 use Rattle.record.specs.Forms.{recordingRefusal, recorded, recordedIn, recordRefusal, eventsOf}
-use Rattle.playback.specs.Replay.{playRefusal, numbersIn, refusedReplay, playAnswer, playSheet, playList}
+use Rattle.playback.specs.Replay.{playRefusal, numbersIn}
+use Rattle.playback.specs.Replay.{refusedReplay, playAnswer, playSheet, playList}
 
 -- no answer is a refusal
 abbrev pub NoneRefused : List Answered → Type 0

@@ -1,5 +1,5 @@
-// Events one after another, with their answers. After a successful Open no event is refused, so that image and
-// session are not checked again for each.
+// Events one after another, with their answers. After a successful Open no event is refused, so that image
+// and session are not checked again for each.
 ghost use mathlib.Core.Path.{_≡_};
 ghost use mathlib.Core.Bool.{true};
 ghost use mathlib.Core.List.{[], _∷_};

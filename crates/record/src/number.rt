@@ -1,6 +1,6 @@
-// Numbers as bytes of seven bits each, a variable-length quantity in its one canonical form: the highest group
-// comes first, and each byte but the last has its top bit set, so that the reader goes on. Numbers up to 65,535
-// take one to three bytes.
+// Numbers as bytes of seven bits each, a variable-length quantity in its one canonical form: the highest
+// group comes first, and each byte but the last has its top bit set, so that the reader goes on. Numbers up
+// to 65,535 take one to three bytes.
 ghost use mathlib.Core.Path.{_≡_};
 ghost use lib.ListN.{length};
 ghost use Rattle.laws.specs.Parts.{putAt};
