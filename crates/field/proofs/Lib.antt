@@ -1,3 +1,4 @@
+pub mod Calendars
 pub mod Bounds
 pub mod Padded
 pub mod Legal

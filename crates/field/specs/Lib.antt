@@ -1,3 +1,4 @@
+pub mod Calendar
 pub mod Formats
 pub mod Profiles
 pub mod Values

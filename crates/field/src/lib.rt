@@ -1,5 +1,6 @@
 // What a field of a menu image is, without the image: kinds and settings, ranges, the cells of a visit, bytes
 // in the sheet.
+pub mod calendar;
 pub mod kind;
 pub mod numeral;
 pub mod profile;
