@@ -5,7 +5,7 @@ use crate::image::*;
 use crate::refusal::*;
 
 /// The parts of a component's tag (001 7.5).
-const CODE: u8 = 0x1F;
+pub const CODE: u8 = 0x1F;
 const EDIT: u8 = 0x20;
 const LAST: u8 = 0x80;
 

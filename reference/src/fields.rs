@@ -4,6 +4,7 @@
 //! for a trigger. The working cells of a visit are sign and digits of an integer, the bits of a switch with the highest stated one
 //! first, and for the other kinds the parts themselves (a counter's counted from `COUNTER_ZERO`).
 
+use crate::calendar::month_end;
 use crate::layout::{COUNTER_ZERO, MINUS, PLUS};
 use std::ops::{Range, RangeInclusive};
 
@@ -13,6 +14,14 @@ pub type Bounds = RangeInclusive<i64>;
 /// A switch stores 32 bits; no field has more working cells.
 pub const MOST_BITS: usize = 32;
 pub const MOST_CELLS: usize = MOST_BITS;
+
+/// The parts of a date, in the order shown.
+pub const YEAR: usize = 0;
+pub const MONTH: usize = 1;
+pub const DAY: usize = 2;
+
+/// R51: short years are counted from here.
+const SHORT_YEARS_FROM: i64 = 2000;
 
 /// Where a value is out of its range, every cell of the field shows this.
 const OUT_OF_RANGE: u8 = b'#';
@@ -117,7 +126,8 @@ impl Kind {
         }
     }
 
-    /// The range of each part of a value. A switch's stated bits all on is its highest value.
+    /// The range of each part of a value. A switch's stated bits all on is its highest value; the days of a date's own month are
+    /// left to `in_range`.
     pub fn bounds(&self) -> Vec<Bounds> {
         match self {
             Kind::Integer(format) => vec![format.bounds()],
@@ -131,8 +141,18 @@ impl Kind {
         }
     }
 
+    /// 01 Fields; 02 No. 3: a date is also a real one.
     pub fn in_range(&self, value: &[i64]) -> bool {
-        all_within(&self.bounds(), value)
+        all_within(&self.bounds(), value) && self.last_day(value).is_none_or(|end| value[DAY] <= end)
+    }
+
+    /// 02 No. 3: where the month of a date ends; none for the other kinds.
+    pub fn last_day(&self, value: &[i64]) -> Option<i64> {
+        match self {
+            Kind::Date { long: true } => Some(month_end(value[YEAR], value[MONTH])),
+            Kind::Date { long: false } => Some(month_end(SHORT_YEARS_FROM + value[YEAR], value[MONTH])),
+            _ => None,
+        }
     }
 
     /// The value that these sheet bytes hold. Dates are stored day, month, year (R5).
@@ -189,6 +209,15 @@ impl Kind {
             Kind::Switch { bits } => vec![0..=1; *bits],
             _ => self.bounds(),
         }
+    }
+
+    /// The same in a visit. In the day part of a date the day ends with its month; before, it is 1 to 31 (R49, R50).
+    pub fn visit_bounds(&self, chosen: usize, cells: &[i64]) -> Vec<Bounds> {
+        let mut bounds = self.cell_bounds();
+        if let (DAY, Some(end)) = (chosen, self.last_day(cells)) {
+            bounds[DAY] = 1..=end;
+        }
+        bounds
     }
 
     /// How many cells or parts a visit can choose among; the kinds without a choice have one.

@@ -1,6 +1,6 @@
 //! The event numbers (01 "The four calls") and what a key does to the working copy of a visit (01 "Keys").
 
-use crate::fields::Kind;
+use crate::fields::{Kind, DAY};
 use crate::layout::{MINUS, PLUS};
 use crate::session::Visit;
 
@@ -54,12 +54,21 @@ fn enter(kind: &Kind, visit: &Visit) -> Pressed {
     if matches!(kind, Kind::Trigger) {
         Pressed::Passed
     } else if has_parts && visit.chosen + 1 < kind.choices() {
-        Pressed::Taken(choosing(visit, visit.chosen + 1))
+        Pressed::Taken(next_part(kind, visit))
     } else if kind.in_range(&value) {
         Pressed::Finished(kind.store(&value))
     } else {
         Pressed::Flash
     }
+}
+
+/// R50: on the way from the month to the day, a day past the month's end is lowered to it.
+fn next_part(kind: &Kind, visit: &Visit) -> Visit {
+    let mut next = visit.choosing(visit.chosen + 1);
+    if let (DAY, Some(end)) = (next.chosen, kind.last_day(&visit.cells)) {
+        next.cells[DAY] = next.cells[DAY].min(end);
+    }
+    next
 }
 
 fn sign_key(kind: &Kind, visit: &Visit, key: usize) -> Option<Visit> {
@@ -90,7 +99,8 @@ fn step_key(kind: &Kind, visit: &Visit, key: usize, step: i64) -> Option<Visit> 
         DOWN => now - step,
         _ => return None,
     };
-    kind.cell_bounds()[visit.chosen].contains(&then).then(|| setting(visit, then))
+    let bounds = kind.visit_bounds(visit.chosen, visit.cells_of(kind));
+    bounds[visit.chosen].contains(&then).then(|| setting(visit, then))
 }
 
 fn switch_key(kind: &Kind, visit: &Visit, key: usize) -> Option<Visit> {
@@ -121,14 +131,10 @@ fn trigger_key(key: usize) -> Pressed {
 /// LEFT and RIGHT move among the cells and flash past an end.
 fn move_key(kind: &Kind, visit: &Visit, key: usize) -> Option<Visit> {
     match key {
-        LEFT if visit.chosen > 0 => Some(choosing(visit, visit.chosen - 1)),
-        RIGHT if visit.chosen + 1 < kind.choices() => Some(choosing(visit, visit.chosen + 1)),
+        LEFT if visit.chosen > 0 => Some(visit.choosing(visit.chosen - 1)),
+        RIGHT if visit.chosen + 1 < kind.choices() => Some(visit.choosing(visit.chosen + 1)),
         _ => None,
     }
-}
-
-fn choosing(visit: &Visit, chosen: usize) -> Visit {
-    Visit { chosen, ..visit.clone() }
 }
 
 fn setting(visit: &Visit, number: i64) -> Visit {

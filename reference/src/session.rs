@@ -295,10 +295,15 @@ impl Level {
 
 impl Visit {
     /// Integers and switches start at the leftmost cell, times and dates at the first part.
-    fn opened(place: usize, starting: &[i64]) -> Visit {
+    pub fn opened(place: usize, starting: &[i64]) -> Visit {
         let mut cells = [0; MOST_CELLS];
         cells[..starting.len()].copy_from_slice(starting);
         Visit { place, chosen: 0, cells }
+    }
+
+    /// The same visit with another cell or part chosen.
+    pub fn choosing(&self, chosen: usize) -> Visit {
+        Visit { chosen, ..self.clone() }
     }
 
     /// The working cells that a field of this kind has.
@@ -312,12 +317,13 @@ impl Visit {
         Some((component, component.field()?))
     }
 
-    /// A cell or part that the field has; a working value in range, or legal signs and digits.
+    /// A cell or part that the field has; a working value in range, or legal signs and digits; in the day part of a date a real
+    /// date (R49).
     fn fits(&self, line: &Line) -> bool {
         match self.component(line) {
             Some((_, field)) => {
                 let cells = self.cells_of(&field.kind);
-                self.chosen < field.kind.choices() && all_within(&field.kind.cell_bounds(), cells)
+                self.chosen < field.kind.choices() && all_within(&field.kind.visit_bounds(self.chosen, cells), cells)
             }
             None => false,
         }

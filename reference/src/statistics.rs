@@ -1,10 +1,13 @@
 //! What sittings reached: refusals, answers, kinds visited, questions marked, records played, and the turns that are met seldom.
 
-use crate::image::Menu;
-use crate::keys::SECOND;
+use crate::components::{CODE, DATE_LONG, DATE_SHORT};
+use crate::fields::{all_within, Field, Kind, DAY, MONTH};
+use crate::image::{Component, Menu};
+use crate::keys::{ENTER, SECOND, UP};
 use crate::marker::{questions, Fault, Question, Verdict};
 use crate::record::{self, read_record, HIGHEST_NUMBER};
-use crate::session::{Answer, Mode, Session};
+use crate::refusal::SESSION;
+use crate::session::{Answer, Mode, Session, Visit};
 use crate::vectors::{Outcome, Reference, Step};
 use crate::walk::check;
 use std::collections::BTreeMap;
@@ -75,6 +78,7 @@ impl Statistics {
                     cursor.is_some_and(|(_, column)| column + 2 == after.session.columns),
                     "edit cursor on the last data cell",
                 );
+                self.drawn_dates(*refusal, after);
             }
             (Step::Event(event), Outcome::Answered(answer)) => self.event(*event, before, after, answer),
             (Step::Mark(key), Outcome::Marked(refusal, sums)) => {
@@ -101,6 +105,12 @@ impl Statistics {
                 let fits = check(&after.image, after.sheet.len()).is_ok_and(|menu| after.session.fits(&menu));
                 self.turn_if(fits, "forged session fits");
                 self.turn_if(!fits, "forged session does not fit");
+                self.turn_if(fits && visits_unreal_date(after), "date: not real, forged session fits");
+                self.turn_if(is_day_alone_at_fault(after), "date: forged, fits but for the day");
+            }
+            (Step::Sheet(_), _) => {
+                let fields_hold = |menu: Menu| menu.fields().iter().any(|(_, field)| holds_unreal_date(field, &after.sheet));
+                self.turn_if(check(&after.image, after.sheet.len()).is_ok_and(fields_hold), "date: not real, lent in a sheet");
             }
             _ => {}
         }
@@ -120,7 +130,37 @@ impl Statistics {
             self.depths[before.levels.len()] += 1;
             self.visit_key(event, before, after, answer);
             self.turns_of(event, before, &after.session, answer);
+            self.date_turns(event, before, after, answer);
         }
+        self.turn_if(refusal == SESSION && is_day_alone_at_fault(after), "date: event refused for the day");
+    }
+
+    /// Counts what a picture shows of dates that are not real.
+    fn drawn_dates(&mut self, refusal: u8, after: &Reference) {
+        self.turn_if(refusal == SESSION && is_day_alone_at_fault(after), "date: picture refused for the day");
+        if let (0, Ok(menu)) = (refusal, check(&after.image, after.sheet.len())) {
+            let (table, first) = (after.session.table(&menu), after.session.here().first);
+            let lines = table.lines.iter().skip(first).take(after.session.rows());
+            let mut fields = lines.flat_map(|line| &line.components).filter_map(Component::field);
+            self.turn_if(fields.any(|field| holds_unreal_date(field, &after.sheet)), "date: not real, shown as '#'");
+            self.turn_if(visits_unreal_date(after), "date: not real, visit in digits");
+        }
+    }
+
+    /// Counts what an accepted event does in the visit of a date, or where it opens one.
+    fn date_turns(&mut self, event: usize, before: &Session, after: &Reference, answer: &Answer) {
+        if let Some((visit, end)) = visited_date(&after.image, before) {
+            let day = visit.cells[DAY];
+            let leaves_month = event == ENTER && visit.chosen == MONTH;
+            let flashes_up = event == UP && *answer == Answer::Flash;
+            let is_stored = matches!(answer, Answer::Finished(_));
+            self.turn_if(event != SECOND && day > end, "date: not real, key in its visit");
+            self.turn_if(leaves_month && day > end, "date: day lowered by ENTER");
+            self.turn_if(leaves_month && day == end, "date: day at the end left by ENTER");
+            self.turn_if(flashes_up && visit.chosen == DAY && end < 31, "date: UP flashes before the 31st");
+            self.turn_if(is_stored && day == 29 && end == 29, "date: 29 February stored");
+        }
+        self.turn_if(event == ENTER && opens_unreal_date(before, after), "date: not real, visit from default");
     }
 
     /// Counts a key on an image that is accepted.
@@ -215,6 +255,45 @@ impl Statistics {
     }
 }
 
+/// The visit of a date and where its month ends.
+fn visited_date<'a>(image: &[u8], session: &'a Session) -> Option<(&'a Visit, i64)> {
+    let Mode::Visit(visit) = &session.mode else { return None };
+    let kind = match image.get(visit.place)? & CODE {
+        DATE_LONG => Kind::Date { long: true },
+        DATE_SHORT => Kind::Date { long: false },
+        _ => return None,
+    };
+    Some((visit, kind.last_day(&visit.cells)?))
+}
+
+fn visits_unreal_date(after: &Reference) -> bool {
+    visited_date(&after.image, &after.session).is_some_and(|(visit, end)| visit.cells[DAY] > end)
+}
+
+/// Whether the session does not fit for its visit's day, 1 to 31, alone: it would on the 1st.
+fn is_day_alone_at_fault(after: &Reference) -> bool {
+    let Ok(menu) = check(&after.image, after.sheet.len()) else { return false };
+    let mut other = after.session.clone();
+    let Mode::Visit(visit) = &mut other.mode else { return false };
+    let is_a_day = (1..=31).contains(&visit.cells[DAY]);
+    visit.cells[DAY] = 1;
+    is_a_day && visits_unreal_date(after) && !after.session.fits(&menu) && other.fits(&menu)
+}
+
+/// Whether the sheet's date has its parts in range and is not real.
+fn holds_unreal_date(field: &Field, sheet: &[u8]) -> bool {
+    let value = field.kind.load(&sheet[field.sheet_bytes()]);
+    all_within(&field.kind.bounds(), &value) && !field.kind.in_range(&value)
+}
+
+/// Whether an accepted event opened the visit of a date that is not real in the sheet.
+fn opens_unreal_date(before: &Session, after: &Reference) -> bool {
+    let (Mode::Visit(visit), Ok(menu)) = (&after.session.mode, check(&after.image, after.sheet.len())) else { return false };
+    let is_new = !matches!(&before.mode, Mode::Visit(other) if other.place == visit.place);
+    let holds = |(place, field): &(usize, &Field)| *place == visit.place && holds_unreal_date(field, &after.sheet);
+    is_new && menu.fields().iter().any(holds)
+}
+
 /// A cause of refusal 15 in words; a wrong place by what stands there.
 fn fault_name(menu: &Menu, sheet: &[u8], fault: Fault) -> &'static str {
     match fault {
@@ -254,7 +333,7 @@ impl fmt::Display for Statistics {
         }
         writeln!(out, "turns:")?;
         for (name, times) in &self.turns {
-            writeln!(out, "  {name:34} {times:9}")?;
+            writeln!(out, "  {name:36} {times:9}")?;
         }
         Ok(())
     }

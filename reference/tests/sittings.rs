@@ -11,8 +11,16 @@ use reference::vectors::{Executor, Outcome, Reference, Step};
 use reference::walk::check;
 use std::collections::BTreeMap;
 
-const PLAN: Plan =
-    Plan { forging: false, least_actions: 10, most_actions: 60, other_images: 0, wide: false, marking: false, recording: false };
+const PLAN: Plan = Plan {
+    forging: false,
+    least_actions: 10,
+    most_actions: 60,
+    other_images: 0,
+    wide: false,
+    marking: false,
+    recording: false,
+    dates: true,
+};
 
 #[test]
 fn session_bytes_read_back() {

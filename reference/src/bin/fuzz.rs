@@ -12,7 +12,7 @@ const PROGRESS: u64 = 20_000;
 
 /// The sittings of a run; sessions are forged where they can be compared.
 const fn plan(forging: bool) -> Plan {
-    Plan { forging, least_actions: 0, most_actions: 40, other_images: 5, wide: true, marking: true, recording: true }
+    Plan { forging, least_actions: 0, most_actions: 40, other_images: 5, wide: true, marking: true, recording: true, dates: true }
 }
 
 /// The arguments behind LIB or --dry.

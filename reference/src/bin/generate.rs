@@ -8,8 +8,16 @@ use reference::vectors::{to_hex, write_line, Executor, Reference, Step};
 use std::io::{self, BufWriter, Write};
 use std::process::ExitCode;
 
-const PLAN: Plan =
-    Plan { forging: false, least_actions: 10, most_actions: 30, other_images: 12, wide: false, marking: true, recording: true };
+const PLAN: Plan = Plan {
+    forging: false,
+    least_actions: 10,
+    most_actions: 30,
+    other_images: 12,
+    wide: false,
+    marking: true,
+    recording: true,
+    dates: true,
+};
 
 /// Prints one case, with the sheet wherever a call changed it.
 fn print_case(out: &mut impl Write, seed: u64, number: u64, statistics: &mut Statistics) -> io::Result<()> {

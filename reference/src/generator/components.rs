@@ -1,7 +1,9 @@
 //! Random components of every kind with good settings. Their var-addr is given out later.
 
+use super::dates::{real_date, unreal_date};
 use super::lay::ComponentPlan;
 use crate::components::*;
+use crate::fields::Kind;
 use crate::random::Random;
 
 const EDIT: u8 = 0x20;
@@ -60,12 +62,8 @@ fn settings(random: &mut Random, code: u8, bytes: &mut Vec<u8>) -> usize {
         COUNTER => counter(random, bytes),
         TIME_LONG => parts(random, bytes, &[(0, 23), (0, 59), (0, 59)]),
         TIME_SHORT => parts(random, bytes, &[(0, 23), (0, 59)]),
-        DATE_SHORT => parts(random, bytes, &[(1, 31), (1, 12), (0, 99)]),
-        DATE_LONG => {
-            parts(random, bytes, &[(1, 31), (1, 12)]);
-            bytes.extend((random.edgy(0, 9999) as u16).to_le_bytes());
-            4
-        }
+        DATE_LONG => date(random, bytes, true),
+        DATE_SHORT => date(random, bytes, false),
         SWITCH => switch(random, bytes),
         OPTION => option(random, bytes),
         _ => integer(random, code, bytes),
@@ -94,6 +92,12 @@ fn parts(random: &mut Random, bytes: &mut Vec<u8>, ranges: &[(i64, i64)]) -> usi
         bytes.push(random.edgy(low, high) as u8);
     }
     ranges.len()
+}
+
+fn date(random: &mut Random, bytes: &mut Vec<u8>, long: bool) -> usize {
+    let default = Kind::Date { long }.store(&real_date(random, long));
+    bytes.extend(&default);
+    default.len()
 }
 
 fn counter(random: &mut Random, bytes: &mut Vec<u8>) -> usize {
@@ -187,6 +191,14 @@ pub fn bad_count(random: &mut Random) -> ComponentPlan {
         bytes.extend(vec![0; usize::from(bits)]);
     }
     ComponentPlan { bytes, sheet_size: 0 }
+}
+
+/// Gives a date a default that is not real: refusal 9.
+pub fn make_unreal(random: &mut Random, component: &mut ComponentPlan) {
+    let long = component.bytes[0] & CODE == DATE_LONG;
+    let default = Kind::Date { long }.store(&unreal_date(random, long));
+    let at = component.bytes.len() - default.len();
+    component.bytes[at..].copy_from_slice(&default);
 }
 
 /// A form left for later, well laid out (R14): refusal 7.

@@ -1,6 +1,6 @@
 //! Images and sheets to play on: good ones, ones with a flaw of each refusal number, and ones damaged at random.
 
-use super::components::{bad_count, component, component_of, later};
+use super::components::{bad_count, component, component_of, later, make_unreal};
 use super::lay::{lay, ComponentPlan, Laid, Mark};
 use super::menus::{any_shape, beyond_limits, menu, Planned, Shape};
 use crate::components::{COUNTER, OPTION, STRING, SWITCH};
@@ -18,6 +18,26 @@ pub struct Material {
 pub fn good(random: &mut Random) -> Material {
     let shape = any_shape(random);
     let planned = menu(random, shape);
+    with_sheet(random, lay(&planned.menu).image, planned.sheet_length)
+}
+
+/// A good menu of dates.
+pub fn dates(random: &mut Random) -> Material {
+    let planned = dates_menu(random);
+    with_sheet(random, lay(&planned.menu).image, planned.sheet_length)
+}
+
+fn dates_menu(random: &mut Random) -> Planned {
+    let lines = random.within(1, 4) as usize;
+    menu(random, Shape::Dates(lines))
+}
+
+/// A menu of dates, one of them with a default that is not real: refusal 9.
+pub fn unreal_default(random: &mut Random) -> Material {
+    let mut planned = dates_menu(random);
+    let mut dates = stored_components(&mut planned);
+    let which = random.below(dates.len());
+    make_unreal(random, dates[which]);
     with_sheet(random, lay(&planned.menu).image, planned.sheet_length)
 }
 
@@ -251,11 +271,15 @@ fn spoil_last(random: &mut Random, laid: &mut Laid) {
     }
 }
 
-/// Settings bytes changed at random, a count that is none, or a password that is none.
+/// Settings bytes changed at random, a count that is none, a date that is not real, or a password that is none.
 fn bad_settings(random: &mut Random) -> Material {
-    if random.chance(15) {
-        let component = bad_count(random);
-        return with_component(random, component);
+    match random.below(100) {
+        0..15 => {
+            let component = bad_count(random);
+            return with_component(random, component);
+        }
+        15..35 => return unreal_default(random),
+        _ => {}
     }
     let (mut planned, _) = good_tree(random);
     let spoil_passwords = random.chance(40);

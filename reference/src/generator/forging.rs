@@ -1,13 +1,23 @@
-//! Forged sessions: the current one with something changed, its bytes with some changed, or any bytes at all.
+//! Forged sessions: the current one with something changed or with the visit of a date, its bytes with some changed, or any bytes
+//! at all.
 
-use crate::fields::MOST_CELLS;
+use super::dates::{edge_date, editable_dates};
+use crate::fields::{DAY, MONTH, MOST_CELLS, YEAR};
 use crate::image::{Line, Menu};
 use crate::layout::{session_to_bytes, LAYOUT};
 use crate::random::Random;
 use crate::session::{Mode, Session, Visit};
 
-/// The bytes of a session that no call returned.
+/// The bytes of a session that no call returned; the visit of a date in half of the cases where one can be.
 pub fn forged(random: &mut Random, session: &Session, menu: Option<&Menu>) -> Vec<u8> {
+    let line = menu.filter(|menu| session.fits(menu)).map(|menu| session.cursor_line(menu));
+    match line.and_then(|line| date_visit(random, line)) {
+        Some(mode) if random.chance(50) => session_to_bytes(&LAYOUT, &Session { mode, ..session.clone() }),
+        _ => changed(random, session, menu),
+    }
+}
+
+fn changed(random: &mut Random, session: &Session, menu: Option<&Menu>) -> Vec<u8> {
     let mut other = session.clone();
     let mut bytes = match random.below(10) {
         0 => return random.bytes(LAYOUT.bytes),
@@ -94,4 +104,12 @@ fn any_visit(random: &mut Random, line: Option<&Line>) -> Mode {
         cells[which] = *random.pick(&[bounds[which].start() - 1, bounds[which].end() + 1]);
     }
     Mode::Visit(Visit { place: component.place, chosen, cells })
+}
+
+/// A visit to an editable date of the line, if there is one, in any of its parts; its day is past the month's end at times.
+fn date_visit(random: &mut Random, line: &Line) -> Option<Mode> {
+    let dates = editable_dates(line);
+    let &(place, long) = dates.get(random.below(dates.len().max(1)))?;
+    let chosen = *random.pick(&[YEAR, MONTH, DAY, DAY]);
+    Some(Mode::Visit(Visit::opened(place, &edge_date(random, long)).choosing(chosen)))
 }

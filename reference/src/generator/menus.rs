@@ -2,7 +2,7 @@
 
 use super::components::{component, component_of, text};
 use super::lay::{ComponentPlan, LinePlan, MenuPlan, TablePlan};
-use crate::components::{STRING, TRIGGER, UCHAR_DD};
+use crate::components::{DATE_LONG, DATE_SHORT, STRING, TRIGGER, UCHAR_DD};
 use crate::image::*;
 use crate::random::Random;
 
@@ -20,6 +20,8 @@ pub enum Shape {
     /// So many lines in all, by tables that are reached more than once (R11).
     ManyLines(usize),
     ManyFields(usize),
+    /// One table of so many lines with dates.
+    Dates(usize),
 }
 
 /// A menu and how many sheet bytes its fields need.
@@ -56,6 +58,7 @@ pub fn menu(random: &mut Random, shape: Shape) -> Planned {
         Shape::Long(lines) => vec![long_table(random, lines)],
         Shape::ManyLines(lines) => many_lines(random, lines),
         Shape::ManyFields(fields) => many_fields(random, fields),
+        Shape::Dates(lines) => vec![dates_table(random, lines)],
     };
     let is_chain = matches!(shape, Shape::Chain(_));
     let to_top = if is_chain && random.chance(70) { 0 } else { delay(random) };
@@ -208,6 +211,19 @@ fn many_fields(random: &mut Random, fields: usize) -> Vec<TablePlan> {
 fn small_field(random: &mut Random) -> ComponentPlan {
     let code = *random.pick(&[TRIGGER, UCHAR_DD]);
     component_of(random, code)
+}
+
+/// Lines of one or two dates, at times with a text before them.
+fn dates_table(random: &mut Random, lines: usize) -> TablePlan {
+    let mut table = plain_table(random, 0);
+    for _ in 0..lines {
+        let texts = random.below(2);
+        let dates = random.within(1, 2) as usize;
+        let codes = [vec![STRING; texts], (0..dates).map(|_| *random.pick(&[DATE_LONG, DATE_SHORT])).collect()].concat();
+        let components = codes.into_iter().map(|code| component_of(random, code)).collect();
+        table.lines.push(LinePlan { components, ..LinePlan::default() });
+    }
+    table
 }
 
 /// Gives each field bytes of its own, in any order and with gaps; answers how long the sheet must be.

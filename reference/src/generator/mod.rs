@@ -3,6 +3,7 @@
 
 pub mod cases;
 pub mod components;
+pub mod dates;
 pub mod flaws;
 pub mod forging;
 pub mod lay;

@@ -1,7 +1,8 @@
 //! One sitting: an image, an opening, and a list of steps, chosen so that most of them do something. It looks at the reference's
 //! session to choose; whatever else plays the same steps is compared with the reference.
 
-use super::flaws::{contents, damaged, flawed, flawed_and_damaged, good, junk, Material};
+use super::dates::{put_dates, visit_keys};
+use super::flaws::{contents, damaged, dates, flawed, flawed_and_damaged, good, junk, Material};
 use super::forging::forged;
 use super::marking::{answered, any_key};
 use super::replaying::Replays;
@@ -32,6 +33,8 @@ pub struct Plan {
     pub marking: bool,
     /// Whether the sitting is recorded and played again: now and then, and at the end.
     pub recording: bool,
+    /// Whether dates are at times visited part by part to their end.
+    pub dates: bool,
 }
 
 pub struct Sitting {
@@ -130,6 +133,9 @@ impl Sitting {
         if self.plan.recording && self.random.once_in(40) {
             return self.records(reference);
         }
+        if self.plan.dates && fits && self.random.once_in(6) && self.visit_date(reference) {
+            return;
+        }
         match self.random.below(1000) {
             0..=599 if self.menu.is_some() && !fits => {
                 let (columns, lines) = shape(&mut self.random, self.plan.wide);
@@ -146,6 +152,14 @@ impl Sitting {
             }
             _ => self.draw(reference),
         }
+    }
+
+    /// Goes through the parts of the date that is ahead; false where none is.
+    fn visit_date(&mut self, reference: &Reference) -> bool {
+        let Some(menu) = &self.menu else { return false };
+        let keys = visit_keys(&mut self.random, menu, &reference.session, &reference.sheet);
+        self.waiting.extend(keys.iter().flatten().copied().map(Step::Event));
+        keys.is_some()
     }
 
     /// One event, at times several of the same.
@@ -255,14 +269,17 @@ impl Sitting {
         self.waiting.extend(replays.steps);
     }
 
-    /// The same length with other contents, seldom another length.
+    /// The same length with other contents, dates among them; seldom another length.
     fn other_sheet(&mut self, reference: &Reference) {
         let length = match self.random.below(15) {
             0 => reference.sheet.len() + 1,
             1 => reference.sheet.len().saturating_sub(1),
             _ => reference.sheet.len(),
         };
-        let sheet = contents(&mut self.random, length);
+        let mut sheet = contents(&mut self.random, length);
+        if let Some(menu) = &self.menu {
+            put_dates(&mut self.random, menu, &mut sheet);
+        }
         self.waiting.push_back(Step::Sheet(sheet));
         self.draw(reference);
     }
@@ -294,7 +311,8 @@ fn far(random: &mut Random, number: usize) -> usize {
 pub fn material(random: &mut Random) -> Material {
     let refusal = random.within(2, 11) as u8;
     match random.below(100) {
-        0..=79 => good(random),
+        0..=69 => good(random),
+        70..=79 => dates(random),
         80..=87 => damaged(random),
         88 => junk(random),
         _ if refusal == 8 && random.once_in(2) => good(random), // those are long
