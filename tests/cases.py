@@ -24,7 +24,7 @@ session handed back, for op 7 'NAME: 0 RIGHT WRONG BLANK' with the three sums, o
 EVENTS ANSWER .. HEX REFUSAL CURSOR HEX' with the number of events (0 if refused), every entry of the list of answers
 afterwards in decimal, the sheet afterwards and what draw answers on the session handed back.  Before record the room
 has EE in every byte; before replay sheet and picture have, and the list has 7 in every entry.  R1 to R33 and R40 to
-R48 are the readings of the papers that a case rests on."""
+R51 are the readings of the papers that a case rests on."""
 import sys
 from pathlib import Path
 

@@ -145,13 +145,57 @@ types('date-long', date(2026, 11, 15, 1),
       ('other keys on the day', 'EEEt 0123456789.LRf', '2026-11-15', 11, '0f0bea07'))
 types('date-long, last', date(9999, 12, 31, 1), ('UP', 'Et Uf Et Uf Et Uf Ed', '9999-12-31', 0, '1f0c0f27'))
 types('date-long, first', date(0, 1, 1, 1), ('DOWN', 'Et Df Et Df Et Df Ed', '0000-01-01', 0, '01010000'))
-types('date-long, 31 March', date(2024, 3, 31, 1), ('to 31 February', 'EEDEt Ed', '2024-02-31', 0, '1f02e807'))
 types('date-long 255', date(255, 1, 1, 1), ('to 256', 'EUEEt Ed', '0256-01-01', 0, '01010001'))
 types('date-short', date(26, 11, 15, 1, short=True),
       ('each part', 'EDEDEDt Ed', '25-10-14', 0, '0e0a19'), ('ENTER to the month', 'EEt', '26-11-15', 6, '0f0b1a'),
       ('ENTER to the day', 'EEEt .f', '26-11-15', 9, '0f0b1a'))
 types('date-short, last', date(99, 12, 31, 1, short=True), ('UP', 'Et Uf Et Uf Et Uf Ed', '99-12-31', 0, '1f0c63'))
 types('date-short, first', date(0, 1, 1, 1, short=True), ('DOWN', 'Et Df Et Df Et Df Ed', '00-01-01', 0, '010100'))
+
+# Real dates (02 No. 3): steps of year and month and ENTER from the year leave the day, ENTER from the month lowers it
+# to the month's end, and the day part steps from 1 to that end (R50).
+types('date-long, 31 March', date(2024, 3, 31, 1),
+      ('to February', 'EEDEt Ed', '2024-02-29', 0, '1d02e807'), ('31 February', 'EEDt', '2024-02-31', 8, '1f03e807'),
+      ('ENTER lowers 31 February', 'EEDEt', '2024-02-29', 11, '1f03e807'),
+      ('over February and back', 'EEDDUUEt Ed', '2024-03-31', 0, '1f03e807'),
+      ('to February, then to March', 'EEDEt Ed EEUEt Ed', '2024-03-29', 0, '1d03e807'),
+      ('down to 1 April', 'EEUEt ' + 'D' * 29 + 't Df Ed', '2024-04-01', 0, '0104e807'),
+      ('31 February, other keys', 'EEDt 0123456789.LRf St Xr13', '2024-02-31', 8, '1f03e807'))
+types('date-long, 31 March 2023', date(2023, 3, 31, 1), ('to February', 'EEDEt Uf Ed', '2023-02-28', 0, '1c02e707'))
+types('date-long, 1 February 2023', date(2023, 2, 1, 1),
+      ('up to 28', 'EEEt Df ' + 'U' * 27 + 't Uf Ed', '2023-02-28', 0, '1c02e707'))
+types('date-long, 31 January', date(2024, 1, 31, 1),
+      ('to February', 'EEUEt Uf Ed', '2024-02-29', 0, '1d02e807'),
+      ('to March', 'EEUUEt Uf Ed', '2024-03-31', 0, '1f03e807'),
+      ('to April', 'EEUUUEt Uf Ed', '2024-04-30', 0, '1e04e807'),
+      ('to May', 'EEUUUUEt Uf Ed', '2024-05-31', 0, '1f05e807'),
+      ('to June', 'EEUUUUUEt Uf Ed', '2024-06-30', 0, '1e06e807'),
+      ('to July', 'EEUUUUUUEt Uf Ed', '2024-07-31', 0, '1f07e807'),
+      ('to August', 'EEUUUUUUUEt Uf Ed', '2024-08-31', 0, '1f08e807'),
+      ('to September', 'EEUUUUUUUUEt Uf Ed', '2024-09-30', 0, '1e09e807'),
+      ('to October', 'EEUUUUUUUUUEt Uf Ed', '2024-10-31', 0, '1f0ae807'),
+      ('to November', 'EEUUUUUUUUUUEt Uf Ed', '2024-11-30', 0, '1e0be807'),
+      ('to December', 'EEUUUUUUUUUUUEt Uf Ed', '2024-12-31', 0, '1f0ce807'))
+types('date-long, 29 February', date(2024, 2, 29, 1),
+      ('UP in the year', 'EUt', '2025-02-29', 3, '1d02e807'),
+      ('ENTER from the year', 'EUEt', '2025-02-29', 8, '1d02e807'),
+      ('to 2025', 'EUEEt Uf Ed', '2025-02-28', 0, '1c02e907'),
+      ('to 2025 and back', 'EUDEEt Ed', '2024-02-29', 0, '1d02e807'),
+      ('to March 2025', 'EUEUEt Ed', '2025-03-29', 0, '1d03e907'),
+      ('to 2028', 'EUUUUEEt Uf Ed', '2028-02-29', 0, '1d02ec07'))
+types('date-long, 29 February 2000', date(2000, 2, 29, 1),
+      ('ENTER four times', 'EEEt Ed', '2000-02-29', 0, '1d02d007'))
+types('date-long, 29 February 1904', date(1904, 2, 29, 1),
+      ('to 1900', 'EDDDDEEt Uf Ed', '1900-02-28', 0, '1c026c07'))
+types('date-long, 29 February 2096', date(2096, 2, 29, 1),
+      ('to 2100', 'EUUUUEEt Uf Ed', '2100-02-28', 0, '1c023408'))
+types('date-long, 29 February 4', date(4, 2, 29, 1), ('to 0', 'EDDDDt Df EEt Uf Ed', '0000-02-29', 0, '1d020000'))
+types('date-long, 29 February 9996', date(9996, 2, 29, 1),
+      ('to 9999', 'EUUUt Uf EEt Uf Ed', '9999-02-28', 0, '1c020f27'))
+types('date-short, 31 March', date(24, 3, 31, 1, short=True),
+      ('to February', 'EEDEt Uf Ed', '24-02-29', 0, '1d0218'), ('to April', 'EEUEt Uf Ed', '24-04-30', 0, '1e0418'))
+types('date-short, 29 February 2000', date(0, 2, 29, 1, short=True),        # R51
+      ('ENTER four times', 'EEEt Uf Ed', '00-02-29', 0, '1d0200'), ('to 2001', 'EUEEt Uf Ed', '01-02-28', 0, '1c0201'))
 
 types('switch of 5', switch(5, 0x16, 1),
       ('ENTER', 'Et', '10110', 3, '16000000'), ('UP on what is on', 'Et Ut Ed', '10110', 0, '16000000'),

@@ -95,6 +95,7 @@ for name, no, img, sheet in (
     refuses(f'{name}, picture of 5', no, img, sheet, length=5)
     refuses(f'{name}, no such shape, no picture', no, img, sheet, shape=(0, 0))
     refuses(f'{name}, no such visit, picture of 27', no, img, sheet, visit=0, length=27)
+refuses('29 February 2023 for a default', 9, one(date(2023, 2, 29)), '1c02e707')
 for length in 0, 27, 29, 64:
     refuses(f'no such visit, picture of {length}', 12, MENU, ZERO, visit=0, length=length)
     refuses(f'no such shape, picture of {length}', 12, MENU, ZERO, shape=(13, 2), length=length)

@@ -70,3 +70,4 @@ unmarked(one(trigger()), bytes(20), ('a trigger, place 0', [0, 9, 1]), ('a trigg
 for name, no, img, sheet in FAULTS:
     mark(f'{name}, 1 number', no, img, bytes(sheet), [0])
 mark('9 bytes, no questions', 2, EXAM[:9], FIRST, [])
+mark('29 February 2023 for a default, 1 number', 9, one(B(0), date(2023, 2, 29, 1)), bytes(5), [0])

@@ -83,6 +83,8 @@ again('sdd, minus zero is stored as 0', beside(num(3, -5, 1)), 'Et R00t Ed', 'ee
 again('counter -5..100 at 98, DOWN and UP', beside(counter(-5, 100, 10, 98, 3, 1)), 'Et DUt Uf Ed', 'ee6200ee',
       [T14, '>ab 98|'])
 again('trigger, fired, passed, opened again', beside(trigger()), 'Et UU! SEEt R!', 'eeee', [T14, '>ab[*]|'], '1,4')
+again('date-long, 31 March, to February', beside(date(2024, 3, 31, 1)), 'EEDEt Ed', 'ee1d02e807ee',
+      [T14, '>ab2024-02-29'])
 again('parts, all', PARTS, 'EUEt Ed0 DEEUt Ed2 RUt Ed3', '0808 100b19 01000000', [T20, '>08:08 25-11-1601'], rest=2)
 again('submenus, 8 deep, a finished visit', EIGHT, 'RRRRRRREt 123t Ed7', '7b', ['T8        : 1 ', '>123'])
 for name, words, found in (
@@ -165,6 +167,7 @@ for name, no, img, sheet in FAULTS:
     if no > 2:
         unplayed(25, name, '01 01 05', 0, img, sheet, drawn=no)
 unplayed(2, '9 bytes, no events', '01 00', 0, MENU[:9], drawn=2)
+unplayed(9, '29 February 2023 for a default', '01 01 05', 1, one(date(2023, 2, 29)), drawn=9)
 for columns, lines in (13, 4), (21, 2), (16, 1), (16, 5):
     unplayed(1, f'shape {columns} x {lines}', '01 03 0f0e0f', shape=(columns, lines))
 unplayed(1, '9 bytes, shape 13 x 2', '01 03 0f0e0f', img=MENU[:9], shape=(13, 2), drawn=2)

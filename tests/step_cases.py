@@ -20,18 +20,24 @@ for word in 'Er12', 'Sr12', 'Xr12', 'Yr12':     # 12 comes before 13
     steps(f'{word}, a submenu of another image', MENU, ZERO, word, (10, 2, 1), (FORM.tabs[1], 1, 0), idle=3)
     steps(f'{word}, a visit of another image', MENU, ZERO, word, visit=KEY, cells=(1, 2, 3), idle=3)
     steps(f'{word}, an entry of another image', MENU, ZERO, word, (10, 1, 1), typed=(1,), idle=3)
+SPRING, APRIL_31 = one(date(2024, 5, 6)), {'visit': 14, 'cells': (2024, 4, 31), 'at': 2}
 for name, img, sheet, word, levels, of in (
         ('line 3 of 2', MENU, ZERO, 'Ur12', [(10, 2, 2)], {}),
         ('a table not led to', PATHS, '', 'Lr12', [(10, 1, 1), (T2, 0, 0)], {}),
         ('shape 13 x 2', MENU, ZERO, 'Dr12', [TOP], {'shape': (13, 2)}),
         ('a visit of cell 2 of 2', one(num(0)), '00', 'Lr12', [TOP], {'visit': 14, 'cells': (1, 2), 'at': 2}),
         ('a visit of 10', one(num(0)), '00', 'Dr12', [TOP], {'visit': 14, 'cells': (10, 2)}),
-        ('a full entry', LOCKS, 'c8', 'Lr12', [(10, 2, 2)], {'typed': (1, 2)})):
+        ('a full entry', LOCKS, 'c8', 'Lr12', [(10, 2, 2)], {'typed': (1, 2)}),
+        # R49: also where the key would make the date real
+        ('31 April in the day part, DOWN', SPRING, '0605e807', 'Dr12', [TOP], APRIL_31),
+        ('31 April in the day part, ENTER', SPRING, '0605e807', 'Er12', [TOP], APRIL_31),
+        ('31 April in the day part, a second', SPRING, '0605e807', 'Sr12', [TOP], APRIL_31)):
     steps('no fit, ' + name, img, sheet, word, *levels, **of)
 for name, no, img, sheet in FAULTS:             # 2 to 11 come before both
     steps(f'{name}, no such visit, event 17', img, '00' * sheet, f'Xr{no}', visit=0, idle=9)
     steps(f'{name}, the top, a second', img, '00' * sheet, f'Sr{no}', idle=9)
 steps('sheet of 4097, ENTER', MENU, '00' * 4097, 'Er10')
+steps('31 April for a default, ENTER', one(date(2024, 4, 31)), '1e04e807', 'Er9')
 
 # ---- The window moves only as far as needed, also one that is not full (R20b, R23) -----------------------------------
 for lines, cursor, first, word, *then in (
@@ -98,11 +104,34 @@ starts('a counter', counter(-5, 100, 10, 98, 3),
 starts('time-long', time(1, 2, 3),
        {'173b3a': (23, 59, 58), '180000': (1, 2, 3), '003c00': (1, 2, 3), '00003c': (1, 2, 3)})
 starts('time-short', time(1, 2), {'0708': (7, 8), '1800': (1, 2), '003c': (1, 2)})
-starts('date-long', date(2024, 5, 6), {'0f0bea07': (2026, 11, 15), '00000000': (2024, 5, 6), '01011027': (2024, 5, 6)})
-starts('date-short', date(24, 5, 6, short=True), {'1f0c63': (99, 12, 31), '010164': (24, 5, 6)})
+starts('date-long', date(2024, 5, 6),
+       {'0f0bea07': (2026, 11, 15), '00000000': (2024, 5, 6), '01011027': (2024, 5, 6),
+        # 02 No. 3: 31 February 2024, 29 February 2023 and 2024
+        '1f02e807': (2024, 5, 6), '1d02e707': (2024, 5, 6), '1d02e807': (2024, 2, 29)})
+starts('date-short', date(24, 5, 6, short=True),
+       {'1f0c63': (99, 12, 31), '010164': (24, 5, 6), '1f0418': (24, 5, 6), '1d0200': (0, 2, 29)})
 starts('a switch', switch(5, 0x16),
        {'01000000': (0, 0, 0, 0, 1), '20000000': (1, 0, 1, 1, 0), '01000080': (1, 0, 1, 1, 0)})
 starts('an option', option(*MAYBE, default=1), {'03': (3,), '04': (1,), 'ff': (1,)})
+
+# ---- The working copy of a date: its day is lowered on ENTER from the month (02 No. 3, R50) --------------------------
+NAMED, PART = {'U': 'UP', 'D': 'DOWN', 'E': 'ENTER', 'S': 'a second'}, ('year', 'month', 'day')
+def dates(kind, c, sheet, *cases):              # year, month, day and the chosen part; then those handed back
+    for word, *cells, at, then in cases:
+        steps(f'{kind}, {NAMED[word[0]]} on {"-".join(map(str, cells))} in the {PART[at]}', one(c), sheet, word,
+              visit=14, cells=cells, at=at, then=dict(cells=then[:3], at=then[3]))
+dates('date-long', date(2024, 5, 6), '0605e807',
+      ('Ut', 2024, 2, 29, 0, (2025, 2, 29, 0)), ('Uf', 9999, 2, 30, 0, (9999, 2, 30, 0)),
+      ('Et', 2023, 2, 31, 0, (2023, 2, 31, 1)), ('Dt', 2024, 3, 31, 1, (2024, 2, 31, 1)),
+      ('St', 2024, 2, 31, 1, (2024, 2, 31, 1)), ('Et', 2024, 2, 31, 1, (2024, 2, 29, 2)),
+      ('Et', 2023, 2, 29, 1, (2023, 2, 28, 2)), ('Et', 0, 2, 30, 1, (0, 2, 29, 2)),
+      ('Et', 2024, 11, 31, 1, (2024, 11, 30, 2)), ('Et', 2024, 4, 30, 1, (2024, 4, 30, 2)),
+      ('Et', 2024, 2, 1, 1, (2024, 2, 1, 2)), ('Ut', 2024, 2, 28, 2, (2024, 2, 29, 2)),
+      ('Uf', 2023, 2, 28, 2, (2023, 2, 28, 2)))
+dates('date-short', date(24, 5, 6, short=True), '060518',               # R51
+      ('Et', 0, 2, 31, 1, (0, 2, 29, 2)), ('Et', 99, 2, 31, 1, (99, 2, 28, 2)))
+steps('ENTER opens a date that is not real', TWO, '060518 1f0218', 'Ed0', after='1d0218 1f0218', visit=14,
+      cells=(24, 2, 29), at=2, then=dict(visit=TWO.comps[2], cells=[24, 5, 6, *[0] * 29], at=0))
 
 # ---- The last ENTER stores the cells in the field's bytes, and in no other -------------------------------------------
 # The field stands at sheet place 1.  The session keeps the cells of the visit that is over, and the chosen one, which
@@ -117,6 +146,7 @@ for kind, c, cells, at, before, stored in (
         ('time-long', time(1, 2, 3, at=1), (23, 59, 58), 2, '180000', '173b3a'),
         ('time-short', time(1, 2, at=1), (7, 8), 1, 'ffff', '0708'),
         ('date-long', date(1, 1, 1, 1), (2026, 11, 15), 2, '00000000', '0f0bea07'),
+        ('29 February', date(2024, 5, 6, 1), (2024, 2, 29), 2, '1f02e807', '1d02e807'),
         ('date-short', date(1, 1, 1, 1, short=True), (99, 12, 31), 2, '000000', '1f0c63'),
         ('a switch of 9', switch(9, 0, 1), (1, 0, 0, 0, 0, 0, 1, 0, 1), 8, 'ffffffff', '05010000'),
         ('an option', option(*MAYBE, at=1), (3,), 0, 'ff', '03')):

@@ -1,6 +1,6 @@
 -- Components: the reader's layout is that of the grammar's table of codes. Each row is laid out so by its own code, and the code of a component
 -- that is laid out so leads to its row.
-use Prim.Native.Nat.{ℕ, zero, suc, _+_, _≤_, _<_}
+use Prim.Native.Nat.{ℕ, _+_, _≤_, _<_}
 use mathlib.Core.Path.{_≡_, refl, sym, ap, subst, _∙_}
 use mathlib.Core.Bool.{Bool, true, false, false≢true}
 use mathlib.Core.List.{List, [], _∷_}
@@ -13,7 +13,7 @@ use Rattle.laws.proofs.Cases.{if-ind, if-true, if-lt, if-le, if-ne, by-test, an
 use Rattle.laws.proofs.Tables.{passes}
 use Rattle.field.specs.Formats.{formatOf}
 use Rattle.field.specs.Profiles.{profileOf, cellOf}
-use Rattle.field.specs.Cells.{inRange, inSpan, legal, legalTo, cellsOf, within}
+use Rattle.field.specs.Cells.{inRange, inSpan, allWithin, cellsOf, within}
 use Rattle.field.specs.Sheet.{sizeOf}
 use Rattle.field.specs.Settings.{settingsFit, kindFits}
 use Rattle.field.specs.declared.kind.Kind.the-variants.{Integer}
@@ -78,7 +78,7 @@ module _ (im : List ℕ) where
 
   -- every row is laid out by its code and has its field
   row : {at end : ℕ} {fs : List Field} → Component im at end fs → Row at (code im at) end fs
-  unfolding fixedBytes textCount given kindAt defaultPlace sheetPlaceAt profileOf settingsFit kindFits inRange inSpan legal legalTo cellsOf within cellOf _and_ if_then_else_
+  unfolding fixedBytes textCount given kindAt defaultPlace sheetPlaceAt profileOf settingsFit kindFits inRange inSpan allWithin cellsOf within cellOf _and_ if_then_else_
   row (Component.integer k w g) = integer-row _ k w g
   row (Component.counter k w g) = rw k (record { laid = fixed-laid 0x0d (lit≤ tt) refl w refl (g .good); fields = refl })
   row (Component.time-long k w g) = rw k (record { laid = fixed-laid 0x0f (lit≤ tt) refl w refl (g .good); fields = refl })

@@ -12,7 +12,7 @@ use Rattle.laws.specs.Digits.{fromLow, numberFrom}
 use Rattle.laws.specs.Overwrite.{fit}
 use Rattle.field.specs.Profiles.{profileOf, cellOf}
 use Rattle.field.specs.Values.{numberOf}
-use Rattle.field.specs.Cells.{inRange, inSpan, legal, legalTo, cellsOf, within}
+use Rattle.field.specs.Cells.{inRange, inSpan, allWithin, cellsOf, within}
 use Rattle.field.specs.Settings.{settingsFit, kindFits}
 use Rattle.field.specs.declared.record.Field.{Field}
 use Rattle.cmf.specs.Example.{image}
@@ -68,7 +68,7 @@ logs = record {
 
 -- the default of the option is one of its items
 good : GoodSettings (optionAt image 24)
-unfolding settingsFit kindFits inRange inSpan legal legalTo cellsOf within cellOf profileOf numberOf fromLow numberFrom fit _and_ if_then_else_
+unfolding settingsFit kindFits inRange inSpan allWithin cellsOf within cellOf profileOf numberOf fromLow numberFrom fit _and_ if_then_else_
 good = record { good = refl }
 
 items : Texts image 2 34 41 3

@@ -13,7 +13,7 @@ use Rattle.laws.specs.Bytes.{byteAt, room}
 use Rattle.laws.proofs.Cases.{if-ind, if-true, if-false, if-lt, if-le, if-gt, if-ne, by-test, and-i, and-l, and-r}
 use Rattle.laws.proofs.Rooms.{room-le}
 use Rattle.field.specs.Profiles.{profileOf, cellOf}
-use Rattle.field.specs.Cells.{inRange, inSpan, legal, legalTo, cellsOf, within}
+use Rattle.field.specs.Cells.{inRange, inSpan, allWithin, cellsOf, within}
 use Rattle.field.specs.Settings.{settingsFit, kindFits}
 use Rattle.field.specs.declared.record.Field.{Field}
 use Rattle.cmf.specs.Layouts.{code, editBit, GoodSettings}
@@ -243,7 +243,7 @@ module _ (im : List ℕ) (at : ℕ) where
 
   -- one that is not wrong has a form
   formed : (end : ℕ) {b t : ℕ} {gs : List Field} → (ComponentCut im at → ⊥) → (ComponentWrong im at → ⊥) → Form im at b t gs → View (componentRead im at c (byteAt im at) end)
-  unfolding kindAt defaultPlace profileOf settingsFit kindFits inRange inSpan legal legalTo cellsOf within cellOf _and_ if_then_else_
+  unfolding kindAt defaultPlace profileOf settingsFit kindFits inRange inSpan allWithin cellsOf within cellOf _and_ if_then_else_
   formed end u r (Form.integer k) = held end u r (Form.integer k)
   formed end u r (Form.counter k) = held end u r (Form.counter k)
   formed end u r (Form.time-long k) = held end u r (Form.time-long k)

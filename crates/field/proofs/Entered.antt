@@ -16,9 +16,9 @@ use Rattle.laws.specs.Digits.{fromLow}
 use Rattle.laws.proofs.Cases.{if-ind, if-true, if-false, if-eq, by-test, and-i}
 use Rattle.laws.proofs.Numerals.{Below, below-all, number-below, number-of-low}
 use Rattle.field.specs.Formats.{numeralOf, bitsIn, bitsOf}
-use Rattle.field.specs.Profiles.{profileOf, cellOf}
+use Rattle.field.specs.Profiles.{profileOf, endOf, cellOf}
 use Rattle.field.specs.Values.{numberOf}
-use Rattle.field.specs.Cells.{spans, shownBy, minus, storable, ofDigits, cellsOf, storedIn, inSpan, stores, legal, inRange, finished}
+use Rattle.field.specs.Cells.{spans, shownBy, minus, storable, ofDigits, cellsOf, storedIn, inSpan, stores, allWithin, inRange, finished}
 use Rattle.field.specs.Sound.{Sound}
 use Rattle.field.specs.declared.numeral.Numeral.{Numeral}
 use Rattle.field.specs.declared.kind.Kind.{Kind}
@@ -26,7 +26,8 @@ use Rattle.field.specs.declared.kind.Kind.the-variants.{Integer, Counter
 use Rattle.field.specs.declared.profile.Cell.{Cell}
 use Rattle.field.specs.declared.work.Work.{Work}
 use Rattle.field.proofs.Bounds.{format-sound, bits-sound, limit-bytes}
-use Rattle.field.proofs.Legal.{LegalCells, legal-bool, same-legal}
+use Rattle.field.proofs.Legal.{RangeCells, LegalCells, all-bool}
+use Rattle.field.proofs.Rows.{of-most, legal-range, same-range}
 use Rattle.field.proofs.Ranges.{DigitCells, range-of-integer, range-of-switch, switch-digits}
 use Rattle.field.proofs.Trip.{spans-up, spans-down, finished-bytes}
 
@@ -95,8 +96,8 @@ module _ (n : Numeral) (s : Sound n) (cs : List ℕ) (h : DigitCells n cs) where
       let m : n .base ^ length (partAt (n .signs) (n .digits) cs) ≤ n .base ^ n .digits = pow-le-pow-right pos l in
       omega (arith, number-below (n .base) 0 (partAt (n .signs) (n .digits) cs) digits-below)
 
--- a switch that is legal can be stored
-pub switch-stores : (n : ℕ) (cs : List ℕ) → LegalCells (Switch n) cs → storable (bitsOf n) cs ≡ true
+-- a switch's cells within their ends can be stored
+pub switch-stores : (n : ℕ) (cs : List ℕ) → RangeCells (Switch n) cs → storable (bitsOf n) cs ≡ true
 unfolding storable minus
 switch-stores n cs h =
     if-false _ _ (if-eq 0 0 false _ refl)
@@ -138,13 +139,13 @@ three-same cs n a b c l p q r (suc (suc zero)) h = r h
 three-same cs n a b c l p q r (suc (suc (suc i))) h = absurd (omega arith)
 
 -- no part of a time is past 59
-time-part : (long : Bool) (cs : List ℕ) → LegalCells (Time long) cs → (i : ℕ) → i < profileOf (Time long) .cells → getD cs i 0 ≤ 59
+time-part : (long : Bool) (cs : List ℕ) → RangeCells (Time long) cs → (i : ℕ) → i < profileOf (Time long) .cells → getD cs i 0 ≤ 59
 unfolding cellOf
 time-part long cs h i hi =
     if-ind (λ (c : Cell). getD cs i 0 ≤ c .high → getD cs i 0 ≤ 59) (i =? 0) (λ e l. omega arith) (λ e l. l) (h .within i hi .high)
 
 -- a part that is stored and loaded is the same
-pub parts-again : (kind : Kind) (cs : List ℕ) → Whole kind → Fitting kind → LegalCells kind cs
+pub parts-again : (kind : Kind) (cs : List ℕ) → Whole kind → Fitting kind → RangeCells kind cs
     → (i : ℕ) → i < profileOf kind .cells → getD (cellsOf kind (storedIn kind cs)) i 0 ≡ getD cs i 0
 unfolding profileOf cellOf cellsOf storedIn if_then_else_
 parts-again (Integer f) cs t k h = absurd t
@@ -160,29 +161,31 @@ parts-again (Time false) cs t k h =
     three-same cs 2 _ _ _ (lit≤ tt) (omega arith) (omega arith) (λ l. absurd (omega arith))
 parts-again (Date long) cs t k h =
     let m : getD cs 1 0 ≤ 12 = h .within 1 (lit≤ tt) .high in
-    let d : getD cs 2 0 ≤ 31 = h .within 2 (lit≤ tt) .high in
+    let e : getD cs 2 0 ≤ endOf long cs = h .within 2 (lit≤ tt) .high in
+    let d : getD cs 2 0 ≤ 31 = omega (arith, of-most long cs) in
     three-same cs 3 _ _ _ (lit≤ tt) (omega arith) (omega arith) (λ l. omega arith)
 parts-again (Switch n) cs t k h = absurd t
 parts-again (Option n w) cs t k h = one-same cs _ refl
 parts-again Trigger cs t k h = one-same cs _ (omega (arith, h .within 0 (lit≤ tt) .high))
 
--- so what is stored has legal cells
-parts-legal : (kind : Kind) (cs : List ℕ) → Whole kind → Fitting kind → LegalCells kind cs → legal kind (cellsOf kind (storedIn kind cs)) ≡ true
-parts-legal kind cs t k h = legal-bool kind _ (same-legal kind cs _ (parts-again kind cs t k h) h)
+-- so what is stored has its cells within their ends
+parts-within : (kind : Kind) (cs : List ℕ) → Whole kind → Fitting kind → RangeCells kind cs
+    → allWithin (cellOf kind (cellsOf kind (storedIn kind cs))) (cellsOf kind (storedIn kind cs)) (profileOf kind .cells) ≡ true
+parts-within kind cs t k h = all-bool _ _ _ (same-range kind cs _ (parts-again kind cs t k h) h)
 
 -- what ENTER stores is in range
-pub range-stored : (kind : Kind) (cs : List ℕ) → Fitting kind → LegalCells kind cs → stores kind cs ≡ true → inRange kind (storedIn kind cs) ≡ true
+pub range-stored : (kind : Kind) (cs : List ℕ) → Fitting kind → RangeCells kind cs → stores kind cs ≡ true → inRange kind (storedIn kind cs) ≡ true
 unfolding inRange inSpan storedIn stores
 range-stored (Integer f) cs k h e = range-of-integer f _ ∙ spans-stored (numeralOf f) (format-sound f) cs e
-range-stored (Counter s) cs k h e = and-i refl (parts-legal (Counter s) cs tt k h)
-range-stored (Time long) cs k h e = and-i refl (parts-legal (Time long) cs tt k h)
-range-stored (Date long) cs k h e = and-i refl (parts-legal (Date long) cs tt k h)
+range-stored (Counter s) cs k h e = and-i refl (parts-within (Counter s) cs tt k h)
+range-stored (Time long) cs k h e = and-i refl (parts-within (Time long) cs tt k h)
+range-stored (Date long) cs k h e = and-i refl (parts-within (Date long) cs tt k h)
 range-stored (Switch n) cs k h e = range-of-switch n _ ∙ spans-stored (bitsOf n) (bits-sound n) cs (switch-stores n cs h)
-range-stored (Option n w) cs k h e = and-i refl (parts-legal (Option n w) cs tt k h)
-range-stored Trigger cs k h e = and-i refl (parts-legal Trigger cs tt k h)
+range-stored (Option n w) cs k h e = and-i refl (parts-within (Option n w) cs tt k h)
+range-stored Trigger cs k h e = and-i refl (parts-within Trigger cs tt k h)
 
 -- what ENTER stores fits the field's bytes
-pub stored-fits : (kind : Kind) (cs : List ℕ) → Fitting kind → LegalCells kind cs → stores kind cs ≡ true
+pub stored-fits : (kind : Kind) (cs : List ℕ) → Fitting kind → RangeCells kind cs → stores kind cs ≡ true
     → storedIn kind cs < 256 ^ profileOf kind .bytes
 unfolding storedIn stores profileOf cellOf if_then_else_
 stored-fits (Integer f) cs k h e = rw (← limit-bytes f) (digits-limit (numeralOf f) (format-sound f) cs e)
@@ -190,19 +193,21 @@ stored-fits (Counter s) cs k h e = omega arith
 stored-fits (Time true) cs k h e =
     omega (arith, time-part true cs h 0 (lit≤ tt), time-part true cs h 1 (lit≤ tt), time-part true cs h 2 (lit≤ tt))
 stored-fits (Time false) cs k h e = omega (arith, time-part false cs h 0 (lit≤ tt), time-part false cs h 1 (lit≤ tt))
-stored-fits (Date true) cs k h e = omega (arith, h .within 0 (lit≤ tt) .high, h .within 1 (lit≤ tt) .high, h .within 2 (lit≤ tt) .high)
-stored-fits (Date false) cs k h e = omega (arith, h .within 0 (lit≤ tt) .high, h .within 1 (lit≤ tt) .high, h .within 2 (lit≤ tt) .high)
+stored-fits (Date true) cs k h e =
+    omega (arith, h .within 0 (lit≤ tt) .high, h .within 1 (lit≤ tt) .high, h .within 2 (lit≤ tt) .high, of-most true cs)
+stored-fits (Date false) cs k h e =
+    omega (arith, h .within 0 (lit≤ tt) .high, h .within 1 (lit≤ tt) .high, h .within 2 (lit≤ tt) .high, of-most false cs)
 stored-fits (Switch n) cs k h e = digits-limit (bitsOf n) (bits-sound n) cs (switch-stores n cs h)
 stored-fits (Option n w) cs k h e = omega (arith, h .within 0 (lit≤ tt) .high)
 stored-fits Trigger cs k h e = lit≤ tt
 
 -- the bytes of a finished visit are the number that its cells stand for
-pub finished-number : (kind : Kind) (w : Work) → Fitting kind → LegalCells kind (w .cells) → stores kind (w .cells) ≡ true
+pub finished-number : (kind : Kind) (w : Work) → Fitting kind → RangeCells kind (w .cells) → stores kind (w .cells) ≡ true
     → numberOf (finished kind w) ≡ storedIn kind (w .cells)
 unfolding numberOf
 finished-number kind w k h e = ap fromLow (finished-bytes kind w) ∙ number-of-low (profileOf kind .bytes) _ (stored-fits kind (w .cells) k h e)
 
--- and are in range
-pub range-finished : (kind : Kind) (w : Work) → Fitting kind → LegalCells kind (w .cells) → stores kind (w .cells) ≡ true
-    → inRange kind (numberOf (finished kind w)) ≡ true
-range-finished kind w k h e = rw (finished-number kind w k h e) (range-stored kind (w .cells) k h e)
+-- and are in range: where the last part is chosen legal cells are
+pub range-finished : (kind : Kind) (w : Work) → Fitting kind → LegalCells kind w → (profileOf kind .parts ≡ true → w .at + 1 ≡ profileOf kind .cells)
+    → stores kind (w .cells) ≡ true → inRange kind (numberOf (finished kind w)) ≡ true
+range-finished kind w k h l e = let r = legal-range kind w l h in rw (finished-number kind w k r e) (range-stored kind (w .cells) k r e)

@@ -4,13 +4,14 @@ use mathlib.Core.Path.{_≡_, refl, _∙_}
 use mathlib.Core.Bool.{Bool, true}
 use mathlib.Core.List.{List}
 use native.Mathlib.Omega.{arith}
-use borrow.Author.Tests.{le-leb, lt-ltb, ltb-false}
-use Rattle.laws.specs.Choice.{if_then_else_, _and_, _<?_, _≤?_}
+use borrow.Author.Tests.{le-leb, ltb-false}
+use Rattle.laws.specs.Choice.{if_then_else_, _and_, _<?_}
 use Rattle.laws.specs.Bytes.{byteAt, wordAt}
 use Rattle.laws.specs.Digits.{fromLow, numberFrom}
-use Rattle.laws.proofs.Cases.{if-ind, if-le, by-test, and-i}
+use Rattle.laws.proofs.Cases.{if-ind, if-le, and-i}
 use Rattle.field.specs.Formats.{numeralOf, bitsIn, bitsOf}
-use Rattle.field.specs.Profiles.{cellOf}
+use Rattle.field.specs.Calendar.{monthEnd}
+use Rattle.field.specs.Profiles.{timeCell, yearCell, monthCell, dayCell}
 use Rattle.field.specs.Cells.{spans, within, inRange}
 use Rattle.field.specs.Settings.{stepFits, widthFits, kindFits, settingsFit}
 use Rattle.field.specs.Values.{numberOf, valueAt}
@@ -20,6 +21,7 @@ use Rattle.field.specs.declared.kind.CounterSettings.{CounterSettings}
 use Rattle.field.specs.declared.numeral.Numeral.{Numeral}
 use Rattle.field.specs.declared.profile.Cell.{Cell}
 use Rattle.field.specs.declared.value.Value.{Value}
+use Rattle.field.proofs.Calendars.{end-full}
 use Rattle.field.proofs.Padded.{part-four}
 use Rattle.field.proofs.Ranges.{range-of-integer, range-of-time, range-of-date, range-of-switch}
 
@@ -65,20 +67,20 @@ within-ends c l h = and-i (le-leb _ _ l) (le-leb _ _ h)
 pub time-fits :
     (long : Bool) (v : Value) → numberOf v % 256 ≤ 23 → numberOf v / 256 % 256 ≤ 59 → (if long then numberOf v / 65536 % 256 else 0) ≤ 59 →
     settingsFit (Time long) v ≡ true
-unfolding settingsFit kindFits cellOf _and_ if_then_else_
+unfolding settingsFit kindFits _and_ if_then_else_
 time-fits long v h m s =
-    let k = Time long in
     range-of-time long (numberOf v)
-    ∙ and-i (and-i (within-ends (cellOf k 0) (omega arith) h) (within-ends (cellOf k 1) (omega arith) m)) (within-ends (cellOf k 2) (omega arith) s)
+    ∙ and-i (and-i (within-ends (timeCell 0) (omega arith) h) (within-ends (timeCell 1) (omega arith) m)) (within-ends (timeCell 2) (omega arith) s)
 
+-- the day one of its month, in a year as it is given: a short one needs no 2000 added
 pub date-fits :
     (long : Bool) (v : Value) → numberOf v / 65536 ≤ (if long then 9999 else 99) → 1 ≤ numberOf v / 256 % 256 → numberOf v / 256 % 256 ≤ 12 →
-    1 ≤ numberOf v % 256 → numberOf v % 256 ≤ 31 → settingsFit (Date long) v ≡ true
-unfolding settingsFit kindFits cellOf _and_ if_then_else_
+    1 ≤ numberOf v % 256 → numberOf v % 256 ≤ monthEnd (numberOf v / 65536) (numberOf v / 256 % 256) → settingsFit (Date long) v ≡ true
+unfolding settingsFit kindFits _and_
 date-fits long v y m n d e =
-    let k = Date long in
     range-of-date long (numberOf v)
-    ∙ and-i (and-i (within-ends (cellOf k 0) (omega arith) y) (within-ends (cellOf k 1) m n)) (within-ends (cellOf k 2) d e)
+    ∙ and-i (and-i (within-ends (yearCell long) (omega arith) y) (within-ends monthCell m n))
+    (within-ends (dayCell _) d (rw (end-full long (numberOf v / 65536) (numberOf v / 256 % 256)) e))
 
 -- ---- switches
 

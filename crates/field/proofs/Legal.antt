@@ -1,19 +1,18 @@
 -- Legal working copies: the chosen cell exists and every cell is within its ends.
-use Prim.Native.Nat.{ℕ, zero, suc, _+_, _-_, _≤_, _<_}
+use Prim.Native.Nat.{ℕ, zero, suc, _-_, _≤_, _<_}
 use mathlib.Core.Path.{_≡_, refl}
 use mathlib.Core.Bool.{Bool, true, false, false≢true}
 use mathlib.Core.List.{List}
 use native.Mathlib.Omega.{arith}
-use native.Mathlib.Decide.{ℕ-discrete, decLt}
-use lib.ListN.{length, getD, set}
-use lib.Seq.{getD-set-same, getD-set-other, set-out}
+use native.Mathlib.Decide.{ℕ-discrete}
+use lib.ListN.{getD}
 use lib.Dec.{lit≤}
-use borrow.Author.Tests.{ltb-true, leb-true, le-leb}
-use Rattle.laws.specs.Choice.{if_then_else_, _<?_, _≤?_}
+use borrow.Author.Tests.{leb-true, le-leb}
+use Rattle.laws.specs.Choice.{if_then_else_}
 use Rattle.laws.proofs.Cases.{if-ind, and-i, and-l, and-r}
 use Rattle.field.specs.Formats.{baseOf}
-use Rattle.field.specs.Profiles.{profileOf, cellOf, ends, flag, digit}
-use Rattle.field.specs.Cells.{within, legalTo, legal}
+use Rattle.field.specs.Profiles.{profileOf, ends, flag, digit, cellOf, heldTo}
+use Rattle.field.specs.Cells.{within, allWithin, legal}
 use Rattle.field.specs.declared.kind.Kind.{Kind}
 use Rattle.field.specs.declared.kind.Kind.the-variants.{Integer, Counter, Time, Date, Switch, Option, Trigger}
 use Rattle.field.specs.declared.profile.Cell.{Cell}
@@ -25,14 +24,21 @@ pub record Within (c : Cell) (x : ℕ) : Type 0 where
   pub low : c .low ≤ x
   pub high : x ≤ c .high
 
--- each of the kind's cells within its ends
-pub record LegalCells (kind : Kind) (cs : List ℕ) : Type 0 where
-  pub within : (i : ℕ) → i < profileOf kind .cells → Within (cellOf kind i) (getD cs i 0)
+-- each of n cells within the ends of its row
+pub record AllWithin (row : ℕ → Cell) (cs : List ℕ) (n : ℕ) : Type 0 where
+  pub within : (i : ℕ) → i < n → Within (row i) (getD cs i 0)
+
+-- the cells of a number in range, and those of a working copy
+abbrev pub RangeCells : Kind → List ℕ → Type 0
+RangeCells kind cs = AllWithin (cellOf kind cs) cs (profileOf kind .cells)
+
+abbrev pub LegalCells : Kind → Work → Type 0
+LegalCells kind w = AllWithin (heldTo kind w) (w .cells) (profileOf kind .cells)
 
 -- the chosen cell exists, and the cells are legal
 pub record Legal (kind : Kind) (w : Work) : Type 0 where
   pub at : w .at < profileOf kind .cells
-  pub cells : LegalCells kind (w .cells)
+  pub cells : LegalCells kind w
 
 -- ---- the test and the fact
 
@@ -46,35 +52,37 @@ within-bool : (c : Cell) (x : ℕ) → Within c x → within c x ≡ true
 unfolding within
 within-bool c x h = and-i (le-leb (c .low) x (h .low)) (le-leb x (c .high) (h .high))
 
--- the first cells, one by one
-legal-to : (kind : Kind) (cs : List ℕ) (n : ℕ) → legalTo kind cs n ≡ true → (i : ℕ) → i < n → Within (cellOf kind i) (getD cs i 0)
-unfolding legalTo
-legal-to kind cs zero e i h = absurd (omega arith)
-legal-to kind cs (suc n) e i h = go (ℕ-discrete i n) (λ l. legal-to kind cs n (and-l _ _ e) i l)
-  where
-    go : Dec (i ≡ n) → (i < n → Within (cellOf kind i) (getD cs i 0)) → Within (cellOf kind i) (getD cs i 0)
-    go (yes q) below = rw q (within-true (cellOf kind n) (getD cs n 0) (and-r _ _ e))
-    go (no q) below = below (omega arith)
+module _ (row : ℕ → Cell) (cs : List ℕ) where
+  -- the first cells, one by one
+  each : (n : ℕ) → allWithin row cs n ≡ true → (i : ℕ) → i < n → Within (row i) (getD cs i 0)
+  unfolding allWithin
+  each zero e i h = absurd (omega arith)
+  each (suc n) e i h = go (ℕ-discrete i n) (λ l. each n (and-l _ _ e) i l)
+    where
+      go : Dec (i ≡ n) → (i < n → Within (row i) (getD cs i 0)) → Within (row i) (getD cs i 0)
+      go (yes q) below = rw q (within-true (row n) (getD cs n 0) (and-r _ _ e))
+      go (no q) below = below (omega arith)
 
--- and the other way
-legal-from : (kind : Kind) (cs : List ℕ) (n : ℕ) → ((i : ℕ) → i < n → Within (cellOf kind i) (getD cs i 0)) → legalTo kind cs n ≡ true
-unfolding legalTo
-legal-from kind cs zero h = refl
-legal-from kind cs (suc n) h = and-i (legal-from kind cs n (λ i l. h i (omega arith))) (within-bool (cellOf kind n) (getD cs n 0) (h n (omega arith)))
+  -- cells that pass the test are within their ends
+  pub all-true : (n : ℕ) → allWithin row cs n ≡ true → AllWithin row cs n
+  all-true n e = record { within = each n e }
+
+  -- and the other way
+  pub all-bool : (n : ℕ) → AllWithin row cs n → allWithin row cs n ≡ true
+  unfolding allWithin
+  all-bool zero h = refl
+  all-bool (suc n) h =
+      and-i (all-bool n (record { within = λ i l. h .within i (omega arith) })) (within-bool (row n) (getD cs n 0) (h .within n (omega arith)))
 
 -- cells that pass the test are legal
-pub legal-true : (kind : Kind) (cs : List ℕ) → legal kind cs ≡ true → LegalCells kind cs
+pub legal-true : (kind : Kind) (w : Work) → legal kind w ≡ true → LegalCells kind w
 unfolding legal
-legal-true kind cs e = record { within = legal-to kind cs (profileOf kind .cells) e }
+legal-true kind w e = all-true (heldTo kind w) (w .cells) (profileOf kind .cells) e
 
 -- legal cells pass the test
-pub legal-bool : (kind : Kind) (cs : List ℕ) → LegalCells kind cs → legal kind cs ≡ true
+pub legal-bool : (kind : Kind) (w : Work) → LegalCells kind w → legal kind w ≡ true
 unfolding legal
-legal-bool kind cs h = legal-from kind cs (profileOf kind .cells) (h .within)
-
--- cells that are the same are legal where they were
-pub same-legal : (kind : Kind) (cs ds : List ℕ) → ((i : ℕ) → i < profileOf kind .cells → getD ds i 0 ≡ getD cs i 0) → LegalCells kind cs → LegalCells kind ds
-same-legal kind cs ds e h = record { within = λ i hi. rw (e i hi) (h .within i hi) }
+legal-bool kind w h = all-bool (heldTo kind w) (w .cells) (profileOf kind .cells) h
 
 -- ---- rows of the table
 
@@ -97,31 +105,22 @@ if-sane : (t : Bool) {x y : Cell} → Sane x → Sane y → Sane (if t then x el
 if-sane t p q = if-ind (λ (c : Cell). Sane c) t (λ e. p) (λ e. q)
 
 -- every row of the table is so
-pub sane : (kind : Kind) (i : ℕ) → Sane (cellOf kind i)
+pub sane : (kind : Kind) (cs : List ℕ) (i : ℕ) → Sane (cellOf kind cs i)
 unfolding cellOf
-sane (Integer f) i = if-sane _ flag-sane (digit-sane (baseOf f) (base-ge f))
-sane (Counter s) i = ends-sane _ _ _
-sane (Time long) i = if-sane _ (ends-sane _ _ _) (ends-sane _ _ _)
-sane (Date long) i = if-sane _ (ends-sane _ _ _) (if-sane _ (ends-sane _ _ _) (ends-sane _ _ _))
-sane (Switch n) i = flag-sane
-sane (Option n w) i = ends-sane _ _ _
-sane Trigger i = ends-sane _ _ _
+sane (Integer f) cs i = if-sane _ flag-sane (digit-sane (baseOf f) (base-ge f))
+sane (Counter s) cs i = ends-sane _ _ _
+sane (Time long) cs i = if-sane _ (ends-sane _ _ _) (ends-sane _ _ _)
+sane (Date long) cs i = if-sane _ (ends-sane _ _ _) (if-sane _ (ends-sane _ _ _) (ends-sane _ _ _))
+sane (Switch n) cs i = flag-sane
+sane (Option n w) cs i = ends-sane _ _ _
+sane Trigger cs i = ends-sane _ _ _
 
--- a row that lies inside the table's
-pub record Inside (kind : Kind) (i : ℕ) (c : Cell) : Type 0 where
-  pub low : cellOf kind i .low ≤ c .low
-  pub high : c .high ≤ cellOf kind i .high
+-- a row that lies inside another
+pub record Inside (own c : Cell) : Type 0 where
+  pub low : own .low ≤ c .low
+  pub high : c .high ≤ own .high
   pub sets : c .sets ≡ true → c .low ≤ c .high
 
--- the table's own row
-pub own-row : (kind : Kind) (i : ℕ) → Inside kind i (cellOf kind i)
-own-row kind i = record { low = omega arith; high = omega arith; sets = sane kind i .sets }
-
--- a cell that is set within its ends leaves the cells legal
-pub set-legal : (kind : Kind) (cs : List ℕ) (j x : ℕ) → LegalCells kind cs → Within (cellOf kind j) x → LegalCells kind (set cs j x)
-set-legal kind cs j x h hx = record { within = λ i hi. go i hi (ℕ-discrete i j) (decLt j (length cs)) }
-  where
-    go : (i : ℕ) → i < profileOf kind .cells → Dec (i ≡ j) → Dec (j < length cs) → Within (cellOf kind i) (getD (set cs j x) i 0)
-    go i hi (yes e) (yes l) = rw (e, getD-set-same cs j x 0 l) hx
-    go i hi (yes e) (no l) = rw (set-out cs j x (omega arith)) (h .within i hi)
-    go i hi (no n) _ = rw (getD-set-other cs j i x 0 n) (h .within i hi)
+-- the table's row in itself
+pub own-row : (kind : Kind) (cs : List ℕ) (i : ℕ) → Inside (cellOf kind cs i) (cellOf kind cs i)
+own-row kind cs i = record { low = omega arith; high = omega arith; sets = sane kind cs i .sets }

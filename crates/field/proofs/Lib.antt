@@ -2,6 +2,7 @@ pub mod Calendars
 pub mod Bounds
 pub mod Padded
 pub mod Legal
+pub mod Rows
 pub mod Ranges
 pub mod Trip
 pub mod Entered

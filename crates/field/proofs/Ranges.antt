@@ -14,8 +14,9 @@ use Rattle.laws.proofs.Cases.{if-ind, if-max, if-ne, if-lt, if-ge, and-second}
 use Rattle.laws.proofs.Lists.{getD-left, getD-right}
 use Rattle.laws.proofs.Numerals.{length-digits, digit-below}
 use Rattle.field.specs.Formats.{formatOf, signsOf, digitsIn, baseOf, limitOf, halfOf, topOf, numeralOf, bitsIn, bitsOf}
-use Rattle.field.specs.Profiles.{profileOf, cellOf, flag, digit}
-use Rattle.field.specs.Cells.{biased, spans, distance, signOf, inDigits, cellsOf, inSpan, within, legalTo, legal, inRange}
+use Rattle.field.specs.Calendar.{monthEnd, fullYear}
+use Rattle.field.specs.Profiles.{profileOf, flag, digit, counterCell, timeCell, optionCell, yearCell, monthCell, dayCell, endOf, cellOf}
+use Rattle.field.specs.Cells.{biased, spans, distance, signOf, inDigits, cellsOf, inSpan, within, allWithin, inRange}
 use Rattle.field.specs.Sound.{Sound}
 use Rattle.field.specs.declared.numeral.Numeral.{Numeral}
 use Rattle.field.specs.declared.kind.Format.{Format}
@@ -23,7 +24,7 @@ use Rattle.field.specs.declared.kind.Kind.the-variants.{Integer, Counter
 use Rattle.field.specs.declared.kind.CounterSettings.{CounterSettings}
 use Rattle.field.specs.declared.profile.Cell.{Cell}
 use Rattle.field.proofs.Bounds.{base-ge, format-sound, bits-sound}
-use Rattle.field.proofs.Legal.{Within, LegalCells, legal-bool}
+use Rattle.field.proofs.Legal.{Within, RangeCells, all-bool}
 
 -- ---- by computation
 
@@ -94,16 +95,16 @@ module _ (n : Numeral) (s : Sound n) (x : ℕ) where
 -- ---- the table's rows
 
 module _ (f : Format) (cs : List ℕ) where
-  -- an integer's legal cells are a sign and digits
-  pub integer-digits : LegalCells (Integer f) cs → DigitCells (numeralOf f) cs
+  -- an integer's cells within their ends are a sign and digits
+  pub integer-digits : RangeCells (Integer f) cs → DigitCells (numeralOf f) cs
   unfolding profileOf cellOf
   integer-digits h = record {
     sign = λ i hi. (rw (if-lt i (signsOf f) flag (digit (baseOf f)) hi) at (h .within i (omega arith))) .high;
     digit = λ i lo hi. let w = rw (if-ge i (signsOf f) flag (digit (baseOf f)) lo) at (h .within i hi) in omega (arith, w .high, base-ge f);
   }
 
-  -- and a sign and digits are legal
-  pub digits-integer : DigitCells (numeralOf f) cs → LegalCells (Integer f) cs
+  -- and a sign and digits are within
+  pub digits-integer : DigitCells (numeralOf f) cs → RangeCells (Integer f) cs
   unfolding profileOf cellOf
   digits-integer h = record {
     within = λ i hi.
@@ -113,54 +114,54 @@ module _ (f : Format) (cs : List ℕ) where
   }
 
 module _ (n : ℕ) (cs : List ℕ) where
-  -- a switch's legal cells are digits to the base 2
-  pub switch-digits : LegalCells (Switch n) cs → DigitCells (bitsOf n) cs
+  -- a switch's are digits to the base 2
+  pub switch-digits : RangeCells (Switch n) cs → DigitCells (bitsOf n) cs
   unfolding profileOf cellOf
   switch-digits h = record {
     sign = λ i hi. absurd (omega arith);
     digit = λ i lo hi. let l : i < bitsIn n = omega arith in omega (arith, h .within i l .high);
   }
 
-  -- and such digits are legal
-  pub digits-switch : DigitCells (bitsOf n) cs → LegalCells (Switch n) cs
+  -- and such digits are within
+  pub digits-switch : DigitCells (bitsOf n) cs → RangeCells (Switch n) cs
   unfolding profileOf cellOf
   digits-switch h = record { within = λ i hi. record { low = omega arith; high = omega (arith, h .digit i (omega arith) (omega arith)) } }
 
--- ---- legality adds nothing
+-- ---- what the range of a kind comes to
 
 -- an integer is in range where its numeral spans it
 pub range-of-integer : (f : Format) (x : ℕ) → inRange (Integer f) x ≡ spans (numeralOf f) x
 unfolding inRange inSpan cellsOf
-range-of-integer f x = and-second _ (legal-bool (Integer f) _ (digits-integer f _ (digit-cells (numeralOf f) (format-sound f) x)))
+range-of-integer f x = and-second _ (all-bool _ _ _ (digits-integer f _ (digit-cells (numeralOf f) (format-sound f) x)))
 
 -- and so is a switch
 pub range-of-switch : (n x : ℕ) → inRange (Switch n) x ≡ spans (bitsOf n) x
 unfolding inRange inSpan cellsOf
-range-of-switch n x = and-second _ (legal-bool (Switch n) _ (digits-switch n _ (digit-cells (bitsOf n) (bits-sound n) x)))
+range-of-switch n x = and-second _ (all-bool _ _ _ (digits-switch n _ (digit-cells (bitsOf n) (bits-sound n) x)))
 
 -- a single cell is all that there is of a counter or an option
-pub range-of-counter : (s : CounterSettings) (x : ℕ) → inRange (Counter s) x ≡ within (cellOf (Counter s) 0) (biased x)
-unfolding inRange inSpan legal legalTo profileOf cellsOf _and_
+pub range-of-counter : (s : CounterSettings) (x : ℕ) → inRange (Counter s) x ≡ within (counterCell s) (biased x)
+unfolding inRange inSpan allWithin profileOf cellOf cellsOf _and_
 range-of-counter s x = refl
 
-pub range-of-option : (n w x : ℕ) → inRange (Option n w) x ≡ within (cellOf (Option n w) 0) x
-unfolding inRange inSpan legal legalTo profileOf cellsOf _and_
+pub range-of-option : (n w x : ℕ) → inRange (Option n w) x ≡ within (optionCell n) x
+unfolding inRange inSpan allWithin profileOf cellOf cellsOf _and_
 range-of-option n w x = refl
 
--- a time or date is its three cells: seconds that a time has not are 0, which is within
+-- a time is its three cells: seconds that it has not are 0, which is within
 pub range-of-time : (long : Bool) (x : ℕ) → inRange (Time long) x
-    ≡ (within (cellOf (Time long) 0) (x % 256) and within (cellOf (Time long) 1) (x / 256 % 256))
-    and within (cellOf (Time long) 2) (if long then x / 65536 % 256 else 0)
-unfolding inRange inSpan legal legalTo profileOf cellsOf cellOf within _and_ if_then_else_
+    ≡ (within (timeCell 0) (x % 256) and within (timeCell 1) (x / 256 % 256)) and within (timeCell 2) (if long then x / 65536 % 256 else 0)
+unfolding inRange inSpan allWithin profileOf cellsOf cellOf within _and_ if_then_else_
 range-of-time true x = refl
 range-of-time false x = sym (and-second _ refl)
 
+-- a date is its three, and the day one of its month
 pub range-of-date : (long : Bool) (x : ℕ) → inRange (Date long) x
-    ≡ (within (cellOf (Date long) 0) (x / 65536) and within (cellOf (Date long) 1) (x / 256 % 256)) and within (cellOf (Date long) 2) (x % 256)
-unfolding inRange inSpan legal legalTo profileOf cellsOf _and_
+    ≡ (within (yearCell long) (x / 65536) and within monthCell (x / 256 % 256)) and within (dayCell (monthEnd (fullYear long (x / 65536)) (x / 256 % 256))) (x % 256)
+unfolding inRange inSpan allWithin profileOf cellOf endOf cellsOf _and_ if_then_else_
 range-of-date long x = refl
 
 -- a trigger is always in range
 pub range-of-trigger : (x : ℕ) → inRange Trigger x ≡ true
-unfolding inRange inSpan legal legalTo profileOf cellOf cellsOf within _and_
+unfolding inRange inSpan allWithin profileOf cellOf cellsOf within _and_
 range-of-trigger x = refl

@@ -20,7 +20,7 @@ use Rattle.field.specs.declared.numeral.Numeral.{Numeral}
 use Rattle.field.specs.declared.kind.Kind.{Kind}
 use Rattle.field.specs.declared.kind.Kind.the-variants.{Integer, Counter, Time, Date, Switch, Option, Trigger}
 use Rattle.field.proofs.Bounds.{format-sound, bits-sound}
-use Rattle.field.proofs.Legal.{LegalCells}
+use Rattle.field.proofs.Legal.{RangeCells}
 use Rattle.field.proofs.Ranges.{DigitCells, sign-at, digit-at, integer-digits, switch-digits}
 use Rattle.field.proofs.Trip.{distance-up, distance-down, sign-up, sign-down, work-at}
 use Rattle.field.proofs.Entered.{by-sign, digits-below, Fitting, parts-again, switch-stores}
@@ -114,13 +114,13 @@ minusZero (Option n w) cs = false
 minusZero Trigger cs = false
 
 -- the cells that were shown come back, with '+' for minus zero
-pub shown-again : (kind : Kind) (cs : List ℕ) → Fitting kind → LegalCells kind cs → profileOf kind .cells ≤ length cs → stores kind cs ≡ true
+pub shown-again : (kind : Kind) (cs : List ℕ) → Fitting kind → RangeCells kind cs → profileOf kind .cells ≤ length cs → stores kind cs ≡ true
     → (i : ℕ) → i < profileOf kind .cells
     → getD (workOf (cellsOf kind (storedIn kind cs)) .cells) i 0 ≡ (if minusZero kind cs and (i =? 0) then 1 else getD cs i 0)
 unfolding minusZero minus profileOf cellsOf storedIn stores _and_ if_then_else_
 shown-again kind cs k h l e i hi = work-at kind (cellsOf kind (storedIn kind cs)) i hi ∙ go kind k h l e hi
   where
-    go : (kind : Kind) → Fitting kind → LegalCells kind cs → profileOf kind .cells ≤ length cs → stores kind cs ≡ true → i < profileOf kind .cells
+    go : (kind : Kind) → Fitting kind → RangeCells kind cs → profileOf kind .cells ≤ length cs → stores kind cs ≡ true → i < profileOf kind .cells
         → getD (cellsOf kind (storedIn kind cs)) i 0 ≡ (if minusZero kind cs and (i =? 0) then 1 else getD cs i 0)
     go (Integer f) k h l e hi = numeral-again (numeralOf f) (format-sound f) cs (integer-digits f cs h) l e i hi
     go (Counter s) k h l e hi = parts-again (Counter s) cs tt k h i hi

@@ -27,7 +27,8 @@ use Rattle.field.specs.declared.kind.Kind.the-variants.{Integer, Counter
 use Rattle.field.specs.declared.work.Work.{Work}
 use Rattle.field.specs.declared.value.Value.{Value}
 use Rattle.field.proofs.Bounds.{format-sound, bits-sound, profile-bytes, profile-cells}
-use Rattle.field.proofs.Legal.{Legal, legal-true, same-legal}
+use Rattle.field.proofs.Legal.{Legal, all-true}
+use Rattle.field.proofs.Rows.{range-legal, same-range}
 use Rattle.field.proofs.Ranges.{front, length-front, length-cells, sign-at}
 
 -- ---- numbers in digits
@@ -165,7 +166,8 @@ pub loaded-legal : (kind : Kind) (x : ℕ) → 0 < profileOf kind .cells → inR
 unfolding workOf inRange
 loaded-legal kind x p e = record {
   at = p;
-  cells = same-legal kind (cellsOf kind x) _ (work-at kind (cellsOf kind x)) (legal-true kind (cellsOf kind x) (and-r _ _ e));
+  cells = range-legal kind (workOf (cellsOf kind x))
+      (same-range kind (cellsOf kind x) _ (work-at kind (cellsOf kind x)) (all-true _ _ _ (and-r _ _ e)));
 }
 
 -- a visit starts legal, whatever the sheet holds

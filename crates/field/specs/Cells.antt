@@ -8,7 +8,7 @@ use Rattle.laws.specs.Parts.{partAt}
 use Rattle.laws.specs.Overwrite.{fit}
 use Rattle.laws.specs.Digits.{digitsOf, numberFrom}
 use Rattle.field.specs.Formats.{maxBits, numeralOf, bitsOf}
-use Rattle.field.specs.Profiles.{profileOf, cellOf}
+use Rattle.field.specs.Profiles.{profileOf, cellOf, heldTo}
 use Rattle.field.specs.Values.{numberOf, valueFrom}
 use Rattle.field.specs.declared.numeral.Numeral.{Numeral}
 use Rattle.field.specs.declared.kind.Kind.{Kind}
@@ -89,7 +89,8 @@ inSpan (Switch n) x = spans (bitsOf n) x
 inSpan (Option n w) x = true
 inSpan Trigger x = true
 
--- whether ENTER can store what the cells show: only an integer's cells can be legal and out of range
+-- whether the last ENTER can store what the cells show: by then only an integer's can be legal and out of
+-- range
 unfoldable pub stores : Kind → List ℕ → Bool
 stores (Integer f) cs = storable (numeralOf f) cs
 stores (Counter s) cs = true
@@ -103,19 +104,20 @@ stores Trigger cs = true
 unfoldable pub within : Cell → ℕ → Bool
 within c x = (c .low ≤? x) and (x ≤? c .high)
 
--- the first n cells within their ends
-unfoldable pub legalTo : Kind → List ℕ → ℕ → Bool
-legalTo k cs zero = true
-legalTo k cs (suc n) = legalTo k cs n and within (cellOf k n) (getD cs n 0)
-
--- 01, A session fits: a working value in range, or legal signs and digits; nobody asks it of a trigger
-unfoldable pub legal : Kind → List ℕ → Bool
-legal k cs = legalTo k cs (profileOf k .cells)
+-- the first n cells within the ends of their rows
+unfoldable pub allWithin : (ℕ → Cell) → List ℕ → ℕ → Bool
+allWithin row cs zero = true
+allWithin row cs (suc n) = allWithin row cs n and within (row n) (getD cs n 0)
 
 -- 01, Fields: a number that the field's bytes can hold is in range if its numeral spans it (integers,
--- switches) and its cells are within their ends (the other kinds)
+-- switches) and its cells are within their ends (the other kinds); 02, No. 3: so a date in range is real
 unfoldable pub inRange : Kind → ℕ → Bool
-inRange k x = inSpan k x and legal k (cellsOf k x)
+inRange k x = inSpan k x and allWithin (cellOf k (cellsOf k x)) (cellsOf k x) (profileOf k .cells)
+
+-- 01, A session fits: each cell of a working copy is within the ends of the row that it is held to; R49: so a
+-- date is real once its day is chosen. `workFits` does not ask it of a trigger
+unfoldable pub legal : Kind → Work → Bool
+legal k w = allWithin (heldTo k w) (w .cells) (profileOf k .cells)
 
 -- a working copy has as many cells as a switch can have
 abbrev pub mostCells : ℕ

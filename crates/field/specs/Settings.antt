@@ -39,6 +39,7 @@ kindFits (Switch n) = (1 ≤? n) and (n ≤? maxBits)
 kindFits (Option n w) = 1 ≤? n
 kindFits Trigger = true
 
--- good settings, and a default in range; a counter's default in range gives min <= default <= max
+-- good settings, and a default in range: for a counter this is min <= default <= max, and for a date that it
+-- is real (02, No. 3)
 unfoldable pub settingsFit : Kind → Value → Bool
 settingsFit k d = kindFits k and inRange k (numberOf d)

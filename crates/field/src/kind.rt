@@ -56,6 +56,9 @@ impl Kind {
     pub const MAX_YEAR: u16 = 9999;
 
     pub const MAX_SHORT_YEAR: u8 = 99;
+
+    // The part of a date that is its day.
+    pub const DAY_PART: u8 = 2;
 }
 
 impl Format {

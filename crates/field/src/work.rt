@@ -4,13 +4,15 @@ ghost use mathlib.Core.List.{[], _∷_};
 ghost use Prim.Native.Nat.{_*_, _/_, _%_, _<_};
 ghost use lib.ListN.{getD};
 ghost use Rattle.laws.specs.Choice.{if_then_else_, _and_};
-ghost use Rattle.field.specs.Profiles.{cellOf};
+ghost use Rattle.field.specs.Calendar.{monthEnd, fullYear};
+ghost use Rattle.field.specs.Profiles.{timeCell, yearCell, monthCell, dayCell, heldTo};
 ghost use Rattle.field.specs.Cells.{biased, cellsOf, storedIn, stores, within, legal, inRange, workOf};
 ghost use Rattle.field.specs.Cells.{started, finished};
+use crate::calendar::month_end;
 use crate::kind::Kind;
 use crate::numeral::Numeral;
 use crate::profile::Cell;
-use crate::profile::cell_of;
+use crate::profile::held_to;
 use crate::profile::profile_of;
 use crate::value::Value;
 
@@ -124,9 +126,9 @@ impl Work {
     }
 
     fn also_within(self, kind: Kind, i: usize, ok: bool) -> bool
-        ensures { λ r. ⌜ r ≡ ok and within (cellOf kind i) (getD (self .cells) i 0) ⌝ }
+        ensures { λ r. ⌜ r ≡ ok and within (heldTo kind self i) (getD (self .cells) i 0) ⌝ }
     {
-        let c = cell_of(kind, i);
+        let c = held_to(kind, self, i);
         let x = self.cell(i);
         if ok {
             if c.low as u64 <= x {
@@ -139,7 +141,7 @@ impl Work {
 
     // Whether each cell is within its ends.
     pub fn legal(self, kind: Kind) -> bool
-        ensures { λ r. ⌜ r ≡ legal kind (self .cells) ⌝ }
+        ensures { λ r. ⌜ r ≡ legal kind self ⌝ }
     {
         let count = profile_of(kind).cells as usize;
         let mut ok = true;
@@ -180,14 +182,27 @@ fn is_within(c: Cell, x: u32) -> bool
     false
 }
 
-// Whether three cells of a kind are within their ends.
-fn are_within(kind: Kind, a: u32, b: u32, c: u32) -> bool
-    ensures { λ r. ⌜ r ≡ (within (cellOf kind 0) a and within (cellOf kind 1) b)
-        and within (cellOf kind 2) c ⌝ }
+// Whether the parts of a time are within their ends; seconds that it has not are 0.
+fn is_time(hour: u32, minute: u32, second: u32) -> bool
+    ensures { λ r. ⌜ r
+        ≡ (within (timeCell 0) hour and within (timeCell 1) minute) and within (timeCell 2) second ⌝ }
 {
-    if is_within(cell_of(kind, 0), a) {
-        if is_within(cell_of(kind, 1), b) {
-            return is_within(cell_of(kind, 2), c);
+    if is_within(Cell::time(0), hour) {
+        if is_within(Cell::time(1), minute) {
+            return is_within(Cell::time(2), second);
+        }
+    }
+    false
+}
+
+// Whether a date is real.
+fn is_date(long: bool, year: u32, month: u32, day: u32) -> bool
+    ensures { λ r. ⌜ r ≡ (within (yearCell long) year and within monthCell month)
+        and within (dayCell (monthEnd (fullYear long year) month)) day ⌝ }
+{
+    if is_within(Cell::year(long), year) {
+        if is_within(Cell::month(), month) {
+            return is_within(Cell::day(month_end(year, month)), day);
         }
     }
     false
@@ -200,14 +215,11 @@ pub fn in_range(kind: Kind, x: u32) -> bool
 {
     match kind {
         Kind::Integer(f) => f.numeral().spans(x as u64),
-        Kind::Counter(_) => is_within(cell_of(kind, 0), bias(x as u64) as u32),
-        Kind::Time(long) => are_within(kind, x % 256, x / 256 % 256, third(long, x)),
-        Kind::Date(_) => are_within(kind, x / 65536, x / 256 % 256, x % 256),
+        Kind::Counter(s) => is_within(Cell::counter(s), bias(x as u64) as u32),
+        Kind::Time(long) => is_time(x % 256, x / 256 % 256, third(long, x)),
+        Kind::Date(long) => is_date(long, x / 65536, x / 256 % 256, x % 256),
         Kind::Switch(n) => Numeral::of_bits(n).spans(x as u64),
-        Kind::Option {
-            items: _,
-            longest: _,
-        } => is_within(cell_of(kind, 0), x),
+        Kind::Option { items, longest: _ } => is_within(Cell::option(items), x),
         Kind::Trigger => true,
     }
 }

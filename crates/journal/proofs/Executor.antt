@@ -100,7 +100,7 @@ opener-parts Trigger = refl
 pub work-legal : (k : Kind) (w : Work) → workFits k w ≡ true → profileOf k .fires ≡ false → Legal k w
 unfolding workFits
 work-legal k w h f =
-    record { at = ltb-true (w .at) (profileOf k .cells) (and-l _ _ h); cells = legal-true k (w .cells) (sym (if-false _ _ f) ∙ and-r _ _ h) }
+    record { at = ltb-true (w .at) (profileOf k .cells) (and-l _ _ h); cells = legal-true k w (sym (if-false _ _ f) ∙ and-r _ _ h) }
 
 -- ---- the system
 

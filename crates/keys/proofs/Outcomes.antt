@@ -1,17 +1,16 @@
 -- What the outcome of a key says of the key and of the working copy. A caller needs no more of a key than its outcome and these facts.
 use Prim.Native.Nat.{ℕ, suc, _+_, _≤_, _<_}
-use mathlib.Core.Path.{_≡_, refl, sym, _∙_}
+use mathlib.Core.Path.{_≡_, refl}
 use mathlib.Core.Bool.{Bool, true, false}
 use native.Mathlib.Omega.{arith}
 use native.Mathlib.Numerals.{add-one}
 use borrow.Author.Tests.{ltb-false}
 use Rattle.laws.specs.Choice.{if_then_else_, _and_, _<?_}
-use Rattle.laws.proofs.Cases.{if-ind, and-l}
+use Rattle.laws.proofs.Cases.{if-ind, if-true, and-l}
 use Rattle.field.specs.Profiles.{profileOf, cellOf}
 use Rattle.field.specs.Cells.{stores, workOf, started}
-use Rattle.keys.specs.Keys.{taken, flash, nextPart, done, fired, passedBy, withChosen, choosing, raised, lowered, upKey, downKey, leftKey, rightKey, digitKey, partAfter, enterKey}
+use Rattle.keys.specs.Keys.{taken, flash, nextPart, done, fired, passedBy, withChosen, choosing, raised, lowered, upKey, downKey, leftKey, rightKey, digitKey, partAfter, capped, enterKey}
 use Rattle.field.specs.declared.kind.Kind.{Kind}
-use Rattle.field.specs.declared.kind.Kind.the-variants.{Integer, Counter, Time, Date, Switch, Option, Trigger}
 use Rattle.field.specs.declared.profile.Profile.{Profile}
 use Rattle.field.specs.declared.profile.Cell.{Cell}
 use Rattle.field.specs.declared.work.Work.{Work}
@@ -20,6 +19,7 @@ use Rattle.keys.specs.declared.press.Pressed.{Pressed}
 use Rattle.keys.specs.declared.press.Outcome.{Outcome}
 use Rattle.keys.specs.declared.press.Outcome.the-variants.{Taken, Flash, NextPart, Done, Fired, Passed}
 use Rattle.field.proofs.Legal.{Legal}
+use Rattle.keys.proofs.Parts.{moves-apart, typed-apart}
 
 -- parts that ENTER has passed: where it goes from part to part, the number of the chosen one
 unfoldable pub passedIn : Profile → Work → ℕ
@@ -74,8 +74,8 @@ module _ {k : Kind} {w : Work} where
   says-passed f = record { facts = (refl, f, refl) }
 
   -- ENTER before the last part
-  says-next : profileOf k .fires ≡ false → partAfter (profileOf k) w ≡ true → Says true k w (nextPart (choosing w (w .at + 1)))
-  unfolding passedIn partAfter if_then_else_
+  says-next : profileOf k .fires ≡ false → partAfter (profileOf k) w ≡ true → Says true k w (nextPart (capped k (choosing w (w .at + 1))))
+  unfolding passedIn partAfter capped if_then_else_
   says-next f m = let p = and-l _ _ m in record { facts = (refl, f, simp (p, add-one)) }
 
   -- the last ENTER
@@ -86,34 +86,6 @@ module _ {k : Kind} {w : Work} where
       last : (t : Bool) → t and ((w .at + 1) <? profileOf k .cells) ≡ false → (if t then profileOf k .cells else 1) ≤ suc (if t then w .at else 0)
       last true q = omega (arith, ltb-false (w .at + 1) (profileOf k .cells) q)
       last false q = omega arith
-
--- ---- what the tables say of parts
-
--- a kind whose cells LEFT and RIGHT choose has no parts
-moves-apart : (k : Kind) → profileOf k .moves ≡ true → profileOf k .parts ≡ false
-unfolding profileOf
-moves-apart (Integer f) e = refl
-moves-apart (Counter s) e = refl
-moves-apart (Time long) e = sym e
-moves-apart (Date long) e = sym e
-moves-apart (Switch n) e = refl
-moves-apart (Option n w) e = refl
-moves-apart Trigger e = refl
-
--- a choice of cells that digit keys do not set
-if-typed : (t : Bool) (a b : Cell) → a .typed ≡ false → b .typed ≡ false → (if t then a else b) .typed ≡ false
-if-typed t a b p q = if-ind (λ (c : Cell). c .typed ≡ false) t (λ e. p) (λ e. q)
-
--- a kind with a cell that digit keys set has no parts, and is no trigger
-typed-apart : (k : Kind) (i : ℕ) → cellOf k i .typed ≡ true → (profileOf k .fires ≡ false) × (profileOf k .parts ≡ false)
-unfolding profileOf cellOf
-typed-apart (Integer f) i e = (refl, refl)
-typed-apart (Counter s) i e = (refl, refl)
-typed-apart (Time long) i e = (refl, sym e ∙ if-typed _ _ _ refl refl)
-typed-apart (Date long) i e = (refl, sym e ∙ if-typed _ _ _ refl (if-typed _ _ _ refl refl))
-typed-apart (Switch n) i e = (refl, refl)
-typed-apart (Option n w) i e = (refl, refl)
-typed-apart Trigger i e = (sym e, refl)
 
 -- ---- the keys
 
@@ -149,9 +121,9 @@ module _ (k : Kind) (w : Work) where
   right-says c = search (by-if, says-flash, says-fired, says-moved, moves-apart, raised-says) depth 10
 
   -- a digit key, by the table's row
-  pub digit-says : (d : ℕ) → Says false k w (digitKey (profileOf k) (cellOf k (w .at)) w d)
+  pub digit-says : (d : ℕ) → Says false k w (digitKey (profileOf k) (cellOf k (w .cells) (w .at)) w d)
   unfolding digitKey
-  digit-says d = by-if _ (λ t. let a = typed-apart k (w .at) t in says-moved (a .0) (a .1)) (λ t. says-flash)
+  digit-says d = by-if _ (λ t. let a = typed-apart k (w .cells) (w .at) t in says-moved (a .0) (a .1)) (λ t. says-flash)
 
   -- ENTER
   pub enter-says : Says true k w (enterKey k w)
@@ -173,3 +145,9 @@ passed-below k w h = go (profileOf k .parts)
     go : (t : Bool) → (if t then w .at else 0) < (if t then profileOf k .cells else 1)
     go true = h .at
     go false = omega arith
+
+-- and one that has passed all but one has its last part chosen
+pub passed-last : (k : Kind) (w : Work) → Legal k w → partsIn (profileOf k) ≤ suc (passedIn (profileOf k) w) → profileOf k .parts ≡ true
+    → w .at + 1 ≡ profileOf k .cells
+unfolding passedIn partsIn
+passed-last k w h l p = omega (arith, h .at, if-true (profileOf k .cells) 1 p, if-true (w .at) 0 p)

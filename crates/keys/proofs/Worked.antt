@@ -1,17 +1,18 @@
 -- Visits of each kind worked out by hand, one statement over one list, by computation. (01's own cases are in `journal`, as whole sittings.)
 use Prim.Native.Nat.{ℕ}
 use mathlib.Core.Path.{_≡_, refl}
-use mathlib.Core.Bool.{true}
+use mathlib.Core.Bool.{true, false}
 use mathlib.Core.List.{List, [], _∷_, map}
 use lib.ListN.{length}
 use Rattle.laws.specs.Choice.{if_then_else_, _and_}
 use Rattle.laws.specs.Overwrite.{fit}
 use Rattle.laws.specs.Digits.{digitsOf, numberFrom, lowFirst, fromLow}
 use Rattle.field.specs.Formats.{formatOf, signsOf, digitsIn, baseOf, limitOf, halfOf, topOf, bitsIn}
-use Rattle.field.specs.Profiles.{profileOf, cellOf}
+use Rattle.field.specs.Calendar.{leapYear, monthEnd, fullYear}
+use Rattle.field.specs.Profiles.{profileOf, endOf, cellOf}
 use Rattle.field.specs.Values.{bytesOf, valueOf, numberOf, valueFrom}
-use Rattle.field.specs.Cells.{spans, distance, signOf, inDigits, shownBy, minus, storable, ofDigits, cellsOf, storedIn, inSpan, stores, within, legalTo, legal, inRange, workOf, started, finished}
-use Rattle.keys.specs.Keys.{raised, lowered, upKey, downKey, leftKey, rightKey, onRight, digitKey, partAfter, enterKey}
+use Rattle.field.specs.Cells.{spans, distance, signOf, inDigits, shownBy, minus, storable, ofDigits, cellsOf, storedIn, inSpan, stores, within, allWithin, inRange, workOf, started, finished}
+use Rattle.keys.specs.Keys.{raised, lowered, upKey, downKey, leftKey, rightKey, onRight, digitKey, partAfter, capped, enterKey}
 use Rattle.field.specs.declared.kind.Kind.{Kind}
 use Rattle.field.specs.declared.kind.Kind.the-variants.{Integer, Time, Date, Switch, Option, Trigger}
 use Rattle.field.specs.declared.work.Work.{Work}
@@ -27,19 +28,19 @@ abbrev pub Key : Type 0
 Key = Kind → Work → Pressed
 
 abbrev pub up : Key
-up k w = upKey (profileOf k) (cellOf k (w .at)) w
+up k w = upKey (profileOf k) (cellOf k (w .cells) (w .at)) w
 
 abbrev pub down : Key
-down k w = downKey (profileOf k) (cellOf k (w .at)) w
+down k w = downKey (profileOf k) (cellOf k (w .cells) (w .at)) w
 
 abbrev pub left : Key
-left k w = leftKey (profileOf k) (cellOf k (w .at)) w
+left k w = leftKey (profileOf k) (cellOf k (w .cells) (w .at)) w
 
 abbrev pub right : Key
-right k w = rightKey (profileOf k) (cellOf k (w .at)) w
+right k w = rightKey (profileOf k) (cellOf k (w .cells) (w .at)) w
 
 abbrev pub typed : ℕ → Key
-typed d k w = digitKey (profileOf k) (cellOf k (w .at)) w d
+typed d k w = digitKey (profileOf k) (cellOf k (w .cells) (w .at)) w d
 
 abbrev pub enter : Key
 enter k w = enterKey k w
@@ -105,6 +106,17 @@ cases =
     (Flash ∷ NextPart ∷ Flash ∷ NextPart ∷ Flash ∷ Done ∷ []) (31 ∷ 12 ∷ 15 ∷ 39 ∷ [])
     ∷ case (Date true) (1 ∷ 1 ∷ 0 ∷ 0 ∷ []) (1 ∷ 1 ∷ 0 ∷ 0 ∷ []) (down ∷ enter ∷ down ∷ enter ∷ down ∷ enter ∷ [])
     (Flash ∷ NextPart ∷ Flash ∷ NextPart ∷ Flash ∷ Done ∷ []) (1 ∷ 1 ∷ 0 ∷ 0 ∷ [])
+    -- 31 March 2024: down to February, and ENTER lowers the day to the 29th, which UP does not pass; from 2023 to the 28th
+    ∷ case (Date true) (31 ∷ 3 ∷ 232 ∷ 7 ∷ []) (1 ∷ 1 ∷ 0 ∷ 0 ∷ []) (enter ∷ down ∷ enter ∷ up ∷ enter ∷ [])
+    (NextPart ∷ Taken ∷ NextPart ∷ Flash ∷ Done ∷ []) (29 ∷ 2 ∷ 232 ∷ 7 ∷ [])
+    ∷ case (Date false) (31 ∷ 3 ∷ 24 ∷ []) (1 ∷ 1 ∷ 0 ∷ []) (down ∷ enter ∷ down ∷ enter ∷ up ∷ down ∷ up ∷ enter ∷ [])
+    (Taken ∷ NextPart ∷ Taken ∷ NextPart ∷ Flash ∷ Taken ∷ Taken ∷ Done ∷ []) (28 ∷ 2 ∷ 23 ∷ [])
+    -- past February and back with the 31st: nothing is lowered before ENTER
+    ∷ case (Date true) (31 ∷ 3 ∷ 232 ∷ 7 ∷ []) (1 ∷ 1 ∷ 0 ∷ 0 ∷ []) (enter ∷ down ∷ down ∷ enter ∷ enter ∷ [])
+    (NextPart ∷ Taken ∷ Taken ∷ NextPart ∷ Done ∷ []) (31 ∷ 1 ∷ 232 ∷ 7 ∷ [])
+    -- 31 April is no date: the visit starts from the default
+    ∷ case (Date true) (31 ∷ 4 ∷ 232 ∷ 7 ∷ []) (29 ∷ 2 ∷ 208 ∷ 7 ∷ []) (enter ∷ enter ∷ enter ∷ []) (NextPart ∷ NextPart ∷ Done ∷ [])
+    (29 ∷ 2 ∷ 208 ∷ 7 ∷ [])
     -- a switch of nine bits at 1 0000 0101: on, off, the next bit on; a digit key flashes
     ∷ case (Switch 9) (5 ∷ 1 ∷ 0 ∷ 0 ∷ []) (0 ∷ 0 ∷ 0 ∷ 0 ∷ []) (up ∷ down ∷ right ∷ up ∷ typed 3 ∷ enter ∷ [])
     (Taken ∷ Taken ∷ Taken ∷ Taken ∷ Flash ∷ Done ∷ []) (133 ∷ 0 ∷ 0 ∷ 0 ∷ [])
@@ -114,5 +126,5 @@ cases =
 
 -- every case comes out as listed
 pub worked : map runs cases ≡ map expected cases
-unfolding cases if_then_else_ _and_ fit digitsOf numberFrom lowFirst fromLow formatOf signsOf digitsIn baseOf limitOf halfOf topOf bitsIn profileOf cellOf numberOf valueFrom spans distance signOf inDigits shownBy minus storable ofDigits cellsOf storedIn inSpan stores within legalTo legal inRange workOf started finished raised lowered upKey downKey leftKey rightKey onRight digitKey partAfter enterKey
+unfolding cases if_then_else_ _and_ fit digitsOf numberFrom lowFirst fromLow formatOf signsOf digitsIn baseOf limitOf halfOf topOf bitsIn leapYear monthEnd fullYear profileOf endOf cellOf numberOf valueFrom spans distance signOf inDigits shownBy minus storable ofDigits cellsOf storedIn inSpan stores within allWithin inRange workOf started finished raised lowered upKey downKey leftKey rightKey onRight digitKey partAfter capped enterKey
 worked = refl

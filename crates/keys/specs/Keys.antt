@@ -1,10 +1,10 @@
 -- 01, Keys, a visit: what each key makes of the working copy. Keys go by the rows of the tables; only ENTER
--- asks the kind whether it can store.
-use Prim.Native.Nat.{ℕ, _+_, _-_}
+-- asks the kind, for the row of the part that it goes to and whether it can store.
+use Prim.Native.Nat.{ℕ, _+_, _-_, min}
 use mathlib.Core.Bool.{Bool}
 use lib.ListN.{getD, set}
 use Rattle.laws.specs.Choice.{if_then_else_, _and_, _<?_, _≤?_}
-use Rattle.field.specs.Profiles.{profileOf}
+use Rattle.field.specs.Profiles.{profileOf, cellOf}
 use Rattle.field.specs.Cells.{stores}
 use Rattle.field.specs.declared.kind.Kind.{Kind}
 use Rattle.field.specs.declared.profile.Profile.{Profile}
@@ -96,11 +96,16 @@ digitKey p c w d =
 unfoldable pub partAfter : Profile → Work → Bool
 partAfter p w = p .parts and ((w .at + 1) <? p .cells)
 
+-- 02, No. 3, R50: ENTER caps the part that it goes to at that part's high end. Where a session fits only a
+-- day can be above it, one that its month has not
+unfoldable pub capped : Kind → Work → Work
+capped k w = withChosen w (min (chosen w) (cellOf k (w .cells) (w .at) .high))
+
 -- ENTER passes a trigger by, and goes to the next part of a time or date; the last ENTER finishes the visit
 -- if what is shown can be stored
 unfoldable pub enterKey : Kind → Work → Pressed
 enterKey k w =
     if profileOf k .fires then passedBy w
-    else if partAfter (profileOf k) w then nextPart (choosing w (w .at + 1))
+    else if partAfter (profileOf k) w then nextPart (capped k (choosing w (w .at + 1)))
     else if stores k (w .cells) then done w
     else flash w

@@ -3,10 +3,12 @@
 ghost use mathlib.Core.Path.{_≡_};
 ghost use Prim.Native.Nat.{_<_};
 ghost use Rattle.keys.specs.Keys.{taken, flash, chosen, withChosen, raised, lowered, upKey, downKey};
-ghost use Rattle.keys.specs.Keys.{leftKey, rightKey, onRight, digitKey, partAfter, enterKey};
+ghost use Rattle.keys.specs.Keys.{leftKey, rightKey, onRight, digitKey, partAfter, capped};
+ghost use Rattle.keys.specs.Keys.{enterKey};
 use field::kind::Kind;
 use field::profile::Cell;
 use field::profile::Profile;
+use field::profile::cell_of;
 use field::profile::profile_of;
 use field::work::Work;
 
@@ -194,6 +196,19 @@ fn part_after(w: Work, p: Profile) -> bool
     false
 }
 
+// The chosen part, at most its high end.
+fn cap(w: Work, kind: Kind) -> Work
+    ensures { λ r. ⌜ r ≡ capped kind w ⌝ }
+{
+    let c = cell_of(kind, w, w.at as usize);
+    let x = chosen(w);
+    let high = c.high as u64;
+    if x < high {
+        return with_chosen(w, x as u32);
+    }
+    with_chosen(w, c.high)
+}
+
 pub fn enter(mut w: Work, kind: Kind) -> Pressed
     ensures { λ r. ⌜ r ≡ enterKey kind w ⌝ }
 {
@@ -207,7 +222,7 @@ pub fn enter(mut w: Work, kind: Kind) -> Pressed
     if part_after(w, p) {
         w.at = w.at + 1;
         return Pressed {
-            work: w,
+            work: cap(w, kind),
             outcome: Outcome::NextPart,
         };
     }

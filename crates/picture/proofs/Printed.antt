@@ -8,7 +8,7 @@ use Rattle.laws.specs.Overwrite.{fit}
 use Rattle.laws.specs.Digits.{fromLow, numberFrom}
 use Rattle.field.specs.Profiles.{profileOf, cellOf}
 use Rattle.field.specs.Values.{numberOf}
-use Rattle.field.specs.Cells.{cellsOf, inSpan, within, legalTo, legal, inRange, workOf}
+use Rattle.field.specs.Cells.{cellsOf, inSpan, within, allWithin, inRange, workOf}
 use Rattle.field.specs.Settings.{kindFits, settingsFit}
 use Rattle.cmf.specs.Readers.{textsFrom, itemFrom, textBytes, titleBy, titleAt, headBy, headAt, fixedBytes, textCount, given, kindAt, defaultPlace, sheetPlaceAt, laidOut, componentBy, componentAt}
 use Rattle.cmf.specs.Places.{linesFrom, linesOf, componentsFrom, componentsOf, lineFrom, lineAt, lineCount, firstEditable}
@@ -27,5 +27,5 @@ printed =
     0x20 ∷ 0x20 ∷ 0x20 ∷ 0x20 ∷ 0x20 ∷ 0x20 ∷ 0x20 ∷ 0x20 ∷ 0x20 ∷ 0x20 ∷ 0x20 ∷ 0x20 ∷ 0x20 ∷ 0x20 ∷ 0x20 ∷ 0x20 ∷ []
 
 pub picture-printed : pictureOf image (0 ∷ []) (opened 16 4) ≡ printed
-unfolding if_then_else_ _and_ wordAt room fit fromLow numberFrom profileOf cellOf numberOf cellsOf inSpan within legalTo legal inRange workOf kindFits settingsFit textsFrom itemFrom textBytes titleBy titleAt headBy headAt fixedBytes textCount given kindAt defaultPlace sheetPlaceAt laidOut componentBy componentAt linesFrom linesOf componentsFrom componentsOf lineFrom lineAt lineCount opened cursorHead cellsText fieldText visiting componentText firstEditable editMark lineNumber moreMark titleRow topRowIn dataText submenuMark lineRow rowAt rowsFrom rowsBelow pictureOf
+unfolding if_then_else_ _and_ wordAt room fit fromLow numberFrom profileOf cellOf numberOf cellsOf inSpan within allWithin inRange workOf kindFits settingsFit textsFrom itemFrom textBytes titleBy titleAt headBy headAt fixedBytes textCount given kindAt defaultPlace sheetPlaceAt laidOut componentBy componentAt linesFrom linesOf componentsFrom componentsOf lineFrom lineAt lineCount opened cursorHead cellsText fieldText visiting componentText firstEditable editMark lineNumber moreMark titleRow topRowIn dataText submenuMark lineRow rowAt rowsFrom rowsBelow pictureOf
 picture-printed = refl

@@ -7,9 +7,9 @@ use Rattle.laws.specs.Parts.{putAt}
 use Rattle.laws.specs.Overwrite.{fit}
 use Rattle.laws.specs.Digits.{digitsOf, numberFrom, lowFirst, fromLow}
 use Rattle.field.specs.Formats.{formatOf, signsOf, digitsIn, baseOf, limitOf, halfOf, topOf}
-use Rattle.field.specs.Profiles.{profileOf, cellOf}
+use Rattle.field.specs.Profiles.{profileOf, cellOf, openDay, heldTo}
 use Rattle.field.specs.Values.{numberOf, valueFrom}
-use Rattle.field.specs.Cells.{spans, distance, inDigits, shownBy, minus, storable, ofDigits, cellsOf, storedIn, inSpan, stores, within, legalTo, legal, inRange, workOf, started, finished}
+use Rattle.field.specs.Cells.{spans, distance, inDigits, shownBy, minus, storable, ofDigits, cellsOf, storedIn, inSpan, stores, within, allWithin, legal, inRange, workOf, started, finished}
 use Rattle.field.specs.Settings.{digitCount, countedCells, stepFits, widthFits, kindFits, settingsFit}
 use Rattle.field.specs.Sheet.{defaultWritten, begun, finishedIn}
 use Rattle.keys.specs.Keys as key
@@ -52,10 +52,10 @@ further =
 
 -- every starred case
 pub starred-as-listed : AsListed starred
-unfolding starred begunWith next answerTo played answeredIn answerNumber eventRefusal eventStep eventSheet sessionRefusal openRefusal openAnswer defaultsWritten lineReach linesReach tableReach componentPlaces fieldsAmong fieldsOf openSheet _before_ _unless_ stepIn sheetIn pressed nextEditable movedTo movedOn followed followedSheet visitStep visitSheet rightTo lastDigit digitStep entryStep firstFor upStep downStep leftStep descended rightStep firstEditable enterAt enterStep browseStep later delayOver browseSecond shapeFits cursorHead levelFits levelsFit tablesFit isIn workFits visitFits digitsTo entryFits modeFits sessionFits opened closed if_then_else_ _and_ wordAt room putAt fit digitsOf numberFrom lowFirst fromLow formatOf signsOf digitsIn baseOf limitOf halfOf topOf profileOf cellOf numberOf valueFrom spans distance inDigits shownBy minus storable ofDigits cellsOf storedIn inSpan stores within legalTo legal inRange workOf started finished digitCount countedCells stepFits widthFits kindFits settingsFit defaultWritten begun finishedIn key.raised key.lowered key.upKey key.downKey key.leftKey key.rightKey key.onRight key.digitKey key.partAfter key.enterKey imageOf textsFrom allDigits passwordFits titleBy titleAt headBy headAt fixedBytes textCount given kindAt defaultPlace sheetPlaceAt laidOut componentBy componentAt linesFrom linesOf componentsFrom componentsOf lineFrom lineAt lineCount fine andThen padded takeTitle agrees linePlaced countLine takeLine inSheet apartFrom takeField takeComponent onComponent onComponents onHead onTitle onSubmenu onBody onLine onLines onTable walked prologCode checked refusalOf
+unfolding starred begunWith next answerTo played answeredIn answerNumber eventRefusal eventStep eventSheet sessionRefusal openRefusal openAnswer defaultsWritten lineReach linesReach tableReach componentPlaces fieldsAmong fieldsOf openSheet _before_ _unless_ stepIn sheetIn pressed nextEditable movedTo movedOn followed followedSheet visitStep visitSheet rightTo lastDigit digitStep entryStep firstFor upStep downStep leftStep descended rightStep firstEditable enterAt enterStep browseStep later delayOver browseSecond shapeFits cursorHead levelFits levelsFit tablesFit isIn workFits visitFits digitsTo entryFits modeFits sessionFits opened closed if_then_else_ _and_ wordAt room putAt fit digitsOf numberFrom lowFirst fromLow formatOf signsOf digitsIn baseOf limitOf halfOf topOf profileOf cellOf openDay heldTo numberOf valueFrom spans distance inDigits shownBy minus storable ofDigits cellsOf storedIn inSpan stores within allWithin legal inRange workOf started finished digitCount countedCells stepFits widthFits kindFits settingsFit defaultWritten begun finishedIn key.raised key.lowered key.upKey key.downKey key.leftKey key.rightKey key.onRight key.digitKey key.partAfter key.capped key.enterKey imageOf textsFrom allDigits passwordFits titleBy titleAt headBy headAt fixedBytes textCount given kindAt defaultPlace sheetPlaceAt laidOut componentBy componentAt linesFrom linesOf componentsFrom componentsOf lineFrom lineAt lineCount fine andThen padded takeTitle agrees linePlaced countLine takeLine inSheet apartFrom takeField takeComponent onComponent onComponents onHead onTitle onSubmenu onBody onLine onLines onTable walked prologCode checked refusalOf
 starred-as-listed = refl
 
 -- and every other
 further-as-listed : AsListed further
-unfolding further begunWith next answerTo played answeredIn answerNumber eventRefusal eventStep eventSheet sessionRefusal openRefusal openAnswer defaultsWritten lineReach linesReach tableReach componentPlaces fieldsAmong fieldsOf openSheet _before_ _unless_ stepIn sheetIn pressed nextEditable movedTo movedOn followed followedSheet visitStep visitSheet rightTo lastDigit digitStep entryStep firstFor upStep downStep leftStep descended rightStep firstEditable enterAt enterStep browseStep later delayOver browseSecond shapeFits cursorHead levelFits levelsFit tablesFit isIn workFits visitFits digitsTo entryFits modeFits sessionFits opened closed if_then_else_ _and_ wordAt room putAt fit digitsOf numberFrom lowFirst fromLow formatOf signsOf digitsIn baseOf limitOf halfOf topOf profileOf cellOf numberOf valueFrom spans distance inDigits shownBy minus storable ofDigits cellsOf storedIn inSpan stores within legalTo legal inRange workOf started finished digitCount countedCells stepFits widthFits kindFits settingsFit defaultWritten begun finishedIn key.raised key.lowered key.upKey key.downKey key.leftKey key.rightKey key.onRight key.digitKey key.partAfter key.enterKey imageOf textsFrom allDigits passwordFits titleBy titleAt headBy headAt fixedBytes textCount given kindAt defaultPlace sheetPlaceAt laidOut componentBy componentAt linesFrom linesOf componentsFrom componentsOf lineFrom lineAt lineCount fine andThen padded takeTitle agrees linePlaced countLine takeLine inSheet apartFrom takeField takeComponent onComponent onComponents onHead onTitle onSubmenu onBody onLine onLines onTable walked prologCode checked refusalOf
+unfolding further begunWith next answerTo played answeredIn answerNumber eventRefusal eventStep eventSheet sessionRefusal openRefusal openAnswer defaultsWritten lineReach linesReach tableReach componentPlaces fieldsAmong fieldsOf openSheet _before_ _unless_ stepIn sheetIn pressed nextEditable movedTo movedOn followed followedSheet visitStep visitSheet rightTo lastDigit digitStep entryStep firstFor upStep downStep leftStep descended rightStep firstEditable enterAt enterStep browseStep later delayOver browseSecond shapeFits cursorHead levelFits levelsFit tablesFit isIn workFits visitFits digitsTo entryFits modeFits sessionFits opened closed if_then_else_ _and_ wordAt room putAt fit digitsOf numberFrom lowFirst fromLow formatOf signsOf digitsIn baseOf limitOf halfOf topOf profileOf cellOf openDay heldTo numberOf valueFrom spans distance inDigits shownBy minus storable ofDigits cellsOf storedIn inSpan stores within allWithin legal inRange workOf started finished digitCount countedCells stepFits widthFits kindFits settingsFit defaultWritten begun finishedIn key.raised key.lowered key.upKey key.downKey key.leftKey key.rightKey key.onRight key.digitKey key.partAfter key.capped key.enterKey imageOf textsFrom allDigits passwordFits titleBy titleAt headBy headAt fixedBytes textCount given kindAt defaultPlace sheetPlaceAt laidOut componentBy componentAt linesFrom linesOf componentsFrom componentsOf lineFrom lineAt lineCount fine andThen padded takeTitle agrees linePlaced countLine takeLine inSheet apartFrom takeField takeComponent onComponent onComponents onHead onTitle onSubmenu onBody onLine onLines onTable walked prologCode checked refusalOf
 further-as-listed = refl

@@ -130,7 +130,7 @@ pub legal-fits : (k : Kind) (w : Work) → Legal k w → workFits k w ≡ true
 unfolding workFits
 legal-fits k w h =
     and-i (lt-ltb (w .at) (profileOf k .cells) (h .at))
-    (if-ind (λ (t : Bool). t ≡ true) (profileOf k .fires) (λ _. refl) (λ _. legal-bool k (w .cells) (h .cells)))
+    (if-ind (λ (t : Bool). t ≡ true) (profileOf k .fires) (λ _. refl) (λ _. legal-bool k w (h .cells)))
 
 -- a visit starts with one
 pub begun-legal : (f : Field) (sheet : List ℕ) → Ready f → Legal (f .kind) (begun f sheet)
@@ -160,7 +160,7 @@ pressed-legal k w e h =
 pub record Long (n : ℕ) (r : Pressed) : Type 0 where
   pub long : length (r .work .cells) ≡ n
 
--- a choice of results; nothing changes, another cell is chosen, or the chosen one is set
+-- a choice of results; nothing changes, another cell is chosen, the chosen one is set, or ENTER goes to a part
 by-long : {n : ℕ} (t : Bool) {x y : Pressed} → (t ≡ true → Long n x) → (t ≡ false → Long n y) → Long n (if t then x else y)
 by-long {n} t f g = if-ind (Long n) t f g
 
@@ -173,7 +173,11 @@ moved-long w i o = record { long = refl }
 set-long : (w : Work) (x i : ℕ) (o : Outcome) → Long (length (w .cells)) (record { work = key.choosing (key.withChosen w x) i; outcome = o })
 set-long w x i o = record { long = length-set (w .cells) (w .at) x }
 
+capped-long : (k : Kind) (w : Work) (i : ℕ) (o : Outcome) → Long (length (w .cells)) (record { work = key.capped k (key.choosing w i); outcome = o })
+unfolding key.capped
+capped-long k w i o = record { long = length-set (w .cells) i _ }
+
 -- so it is with every key
 pub pressed-long : (k : Kind) (w : Work) (e : ℕ) → Long (length (w .cells)) (pressed k w e)
 unfolding pressed key.upKey key.downKey key.leftKey key.rightKey key.enterKey key.digitKey key.raised key.lowered
-pressed-long k w e = search (by-long, same-long, moved-long, set-long) depth 40
+pressed-long k w e = search (by-long, same-long, moved-long, set-long, capped-long) depth 40

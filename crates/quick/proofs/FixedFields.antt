@@ -1,23 +1,23 @@
 -- Fields without texts, recognised by a few tests on their bytes.
-use Prim.Native.Nat.{ℕ, _+_, _-_, _%_, _^_, _≤_, _<_}
-use mathlib.Core.Path.{_≡_, refl, ap, _∙_}
+use Prim.Native.Nat.{ℕ, _+_, _-_, _*_, _/_, _%_, _≤_, _<_}
+use mathlib.Core.Path.{_≡_, refl}
 use mathlib.Core.Bool.{Bool, true, false}
 use mathlib.Core.List.{List, [], _∷_}
 use native.Mathlib.Omega.{arith}
 use native.Mathlib.Nat.{add-assoc}
-use lib.ListN.{length, getD}
-use borrow.Author.Tests.{eqb-true}
-use Rattle.laws.specs.Choice.{if_then_else_, _=?_}
+use lib.ListN.{length}
+use Rattle.laws.specs.Choice.{if_then_else_}
 use Rattle.laws.specs.Bytes.{byteAt, wordAt}
-use Rattle.field.specs.Formats.{formatOf, limitOf, numeralOf}
+use Rattle.field.specs.Formats.{formatOf, numeralOf}
+use Rattle.field.specs.Calendar.{monthEnd}
 use Rattle.field.specs.Profiles.{profileOf}
 use Rattle.field.specs.Cells.{spans, inRange}
 use Rattle.field.specs.Settings.{stepFits, widthFits, settingsFit}
 use Rattle.field.specs.Sheet.{sizeOf}
-use Rattle.field.specs.Values.{valueAt}
+use Rattle.field.specs.Values.{numberOf, valueAt}
 use Rattle.field.specs.declared.kind.Kind.the-variants.{Integer, Counter}
 use Rattle.field.specs.declared.record.Field.{Field}
-use Rattle.field.proofs.Bounds.{limit-le, limit-bytes}
+use Rattle.field.proofs.Calendars.{end-most}
 use Rattle.field.proofs.Fitting.{two-bytes, three-bytes, four-bytes, integer-fits, counter-fits, time-fits, date-fits}
 use Rattle.cmf.specs.Limits.{mostFields}
 use Rattle.cmf.specs.Layouts.{Component, integerAt, counterSettingsAt, counterAt, timeLongAt, timeShortAt, dateLongAt, dateShortAt, triggerAt}
@@ -75,23 +75,34 @@ module _ (im : List ℕ) (at end : ℕ) (inside : end ≤ length im) where
       (record { good = time-fits false (valueAt (at + 6) 2 im) (omega arith) (omega arith) (omega arith) })
 
   pub date-long-is :
-      byteAt im at % 32 ≡ 0x11 → end ≡ at + 10 → 1 ≤ byteAt im (at + 6) → byteAt im (at + 6) ≤ 31 → 1 ≤ byteAt im (at + 7) → byteAt im (at + 7) ≤ 12 →
-      wordAt im (at + 8) ≤ 9999 → Component im at end (dateLongAt im at ∷ [])
+      byteAt im at % 32 ≡ 0x11 → end ≡ at + 10 → 1 ≤ byteAt im (at + 7) → byteAt im (at + 7) ≤ 12 → 1 ≤ byteAt im (at + 6) →
+      byteAt im (at + 6) ≤ monthEnd (wordAt im (at + 8)) (byteAt im (at + 7)) → wordAt im (at + 8) ≤ 9999 → Component im at end (dateLongAt im at ∷ [])
   unfolding profileOf if_then_else_ wordAt
-  date-long-is k e a b c d y =
+  date-long-is k e c d a b y =
+      let v = numberOf (valueAt (at + 6) 4 im) in
       let n = simp add-assoc at (four-bytes (at + 6) im) in
       let z = simp add-assoc at y in
+      let u = simp add-assoc at b in
+      let most = end-most (byteAt im (at + 8) + 256 * byteAt im (at + 9)) (byteAt im (at + 7)) in
+      let year : v / 65536 ≡ byteAt im (at + 8) + 256 * byteAt im (at + 9) = omega arith in
+      let month : v / 256 % 256 ≡ byteAt im (at + 7) = omega arith in
+      let day : v % 256 ≡ byteAt im (at + 6) = omega arith in
       Component.date-long k (record { ends = e; inside = inside })
-      (record { good = date-fits true (valueAt (at + 6) 4 im) (omega arith) (omega arith) (omega arith) (omega arith) (omega arith) })
+      (record { good = date-fits true (valueAt (at + 6) 4 im) (omega arith) (omega arith) (omega arith) (omega arith) (rw (day, year, month) u) })
 
   pub date-short-is :
-      byteAt im at % 32 ≡ 0x12 → end ≡ at + 9 → 1 ≤ byteAt im (at + 6) → byteAt im (at + 6) ≤ 31 → 1 ≤ byteAt im (at + 7) → byteAt im (at + 7) ≤ 12 →
-      byteAt im (at + 8) ≤ 99 → Component im at end (dateShortAt im at ∷ [])
+      byteAt im at % 32 ≡ 0x12 → end ≡ at + 9 → 1 ≤ byteAt im (at + 7) → byteAt im (at + 7) ≤ 12 → 1 ≤ byteAt im (at + 6) →
+      byteAt im (at + 6) ≤ monthEnd (byteAt im (at + 8)) (byteAt im (at + 7)) → byteAt im (at + 8) ≤ 99 → Component im at end (dateShortAt im at ∷ [])
   unfolding profileOf if_then_else_
-  date-short-is k e a b c d y =
+  date-short-is k e c d a b y =
+      let v = numberOf (valueAt (at + 6) 3 im) in
       let n = simp add-assoc at (three-bytes (at + 6) im) in
+      let most = end-most (byteAt im (at + 8)) (byteAt im (at + 7)) in
+      let year : v / 65536 ≡ byteAt im (at + 8) = omega arith in
+      let month : v / 256 % 256 ≡ byteAt im (at + 7) = omega arith in
+      let day : v % 256 ≡ byteAt im (at + 6) = omega arith in
       Component.date-short k (record { ends = e; inside = inside })
-      (record { good = date-fits false (valueAt (at + 6) 3 im) (omega arith) (omega arith) (omega arith) (omega arith) (omega arith) })
+      (record { good = date-fits false (valueAt (at + 6) 3 im) (omega arith) (omega arith) (omega arith) (omega arith) (rw (day, year, month) b) })
 
   -- ---- triggers
 

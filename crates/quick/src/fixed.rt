@@ -6,6 +6,7 @@ ghost use mathlib.Core.List.{[], _∷_};
 ghost use Prim.Native.Nat.{_+_, _*_, _%_, _<_, _≤_};
 ghost use lib.ListN.{length};
 ghost use Rattle.laws.specs.Bytes.{byteAt, wordAt};
+ghost use Rattle.field.specs.Calendar.{monthEnd};
 ghost use Rattle.field.specs.Cells.{biased, inRange};
 ghost use Rattle.field.specs.Settings.{stepFits, widthFits};
 ghost use Rattle.field.specs.declared.kind.Kind.the-variants.{Counter};
@@ -17,6 +18,7 @@ use crate::heads::word_in;
 use crate::tally::Tally;
 use crate::texts::switch_end;
 use cmf::image::Image;
+use field::calendar::month_end;
 use field::kind::Kind;
 use field::numeral::is_in_code;
 use field::settings::counted_cells;
@@ -177,25 +179,27 @@ fn time_short_end(image: &[u8], at: usize) -> usize
     0
 }
 
-// Whether day and month of the date at a place are in range.
-fn date_fits(image: &[u8], at: usize) -> bool
-    requires { ⌜ at + 8 ≤ length (now image) ⌝ }
-    ensures { λ r. ⌜ (r ≡ true → ((1 ≤ byteAt (now (image .entry)) (at + 6))
-        × (byteAt (now (image .entry)) (at + 6) ≤ 31))
-        × ((1 ≤ byteAt (now (image .entry)) (at + 7)) × (byteAt (now (image .entry)) (at + 7) ≤ 12))) ⌝ }
+// Whether the date at a place, of a year that is in range, has a month and a day of that month. A short year
+// is given as it is: with 2000 added it has the same months.
+fn date_fits(image: &[u8], at: usize, year: usize) -> bool
+    requires { ⌜ (at + 8 ≤ length (now image)) × (year < 65536) ⌝ }
+    ensures { λ r. ⌜ (r ≡ true
+        → ((1 ≤ byteAt (now (image .entry)) (at + 7)) × (byteAt (now (image .entry)) (at + 7) ≤ 12))
+        × ((1 ≤ byteAt (now (image .entry)) (at + 6)) × (byteAt (now (image .entry)) (at + 6)
+        ≤ monthEnd year (byteAt (now (image .entry)) (at + 7))))) ⌝ }
 {
-    let day = image[at + 6];
-    if day < 1 {
-        return false;
-    }
-    if Kind::MAX_DAY < day {
-        return false;
-    }
     let month = image[at + 7];
     if month < 1 {
         return false;
     }
-    month <= Kind::MAX_MONTH
+    if Kind::MAX_MONTH < month {
+        return false;
+    }
+    let day = image[at + 6];
+    if day < 1 {
+        return false;
+    }
+    day as u32 <= month_end(year as u32, month as u32)
 }
 
 // Where the date with a year of two bytes at a place ends; 0 in doubt.
@@ -208,10 +212,11 @@ fn date_long_end(image: &[u8], at: usize) -> usize
     if image.len() < end {
         return 0;
     }
-    if (Kind::MAX_YEAR as usize) < word_in(image, at + 8) {
+    let year = word_in(image, at + 8);
+    if (Kind::MAX_YEAR as usize) < year {
         return 0;
     }
-    let fits = date_fits(image, at);
+    let fits = date_fits(image, at, year);
     if fits {
         return end;
     }
@@ -228,10 +233,11 @@ fn date_short_end(image: &[u8], at: usize) -> usize
     if image.len() < end {
         return 0;
     }
-    if Kind::MAX_SHORT_YEAR < image[at + 8] {
+    let year = image[at + 8];
+    if Kind::MAX_SHORT_YEAR < year {
         return 0;
     }
-    let fits = date_fits(image, at);
+    let fits = date_fits(image, at, year as usize);
     if fits {
         return end;
     }

@@ -24,7 +24,7 @@ use Rattle.session.specs.declared.answer.Stepped.{Stepped}
 -- ---- keys that are no cursor key and no ENTER
 
 module _ (k : Kind) (w : Work) (e : ℕ) (a : e ≡ 11 → ⊥) (b : e ≡ 12 → ⊥) (c : e ≡ 13 → ⊥) (d : e ≡ 14 → ⊥) (f : e ≡ 15 → ⊥) where
-  pub press-digit : e ≤ 9 → digitKey (profileOf k) (cellOf k (w .at)) w e ≡ pressed k w e
+  pub press-digit : e ≤ 9 → digitKey (profileOf k) (cellOf k (w .cells) (w .at)) w e ≡ pressed k w e
   unfolding pressed
   press-digit h = sym (if-ne e 11 _ _ a ∙ if-ne e 12 _ _ b ∙ if-ne e 13 _ _ c ∙ if-ne e 14 _ _ d ∙ if-ne e 15 _ _ f ∙ if-le e 9 _ _ h)
 

@@ -1,7 +1,7 @@
 -- 01, A session fits when: one definition for each clause, in the paper's order; the idle count needs none,
 -- since it is a byte. Nothing more is asked.
 use Prim.Native.Nat.{ℕ, zero, suc, _+_, _-_}
-use mathlib.Core.Bool.{Bool, true, false}
+use mathlib.Core.Bool.{Bool, true}
 use mathlib.Core.List.{List, [], _∷_}
 use lib.ListN.{getD, take}
 use Rattle.laws.specs.Choice.{if_then_else_, _and_, _=?_, _<?_, _≤?_}
@@ -65,10 +65,10 @@ unfoldable pub tablesFit : List ℕ → Session → Bool
 tablesFit im s = (s .outer <? deepestTable)
     and levelsFit im (s .lines) prologBytes (take (s .outer) (s .above)) (s .here)
 
--- the working copy of a visit has a chosen cell or part of the field, and legal cells; a trigger has no
--- value, so nothing is asked of its cells
+-- the working copy of a visit has a chosen cell or part of the field, and cells that are legal with it; a
+-- trigger has no value, so nothing is asked of its cells
 unfoldable pub workFits : Kind → Work → Bool
-workFits k w = (w .at <? profileOf k .cells) and (if profileOf k .fires then true else legal k (w .cells))
+workFits k w = (w .at <? profileOf k .cells) and (if profileOf k .fires then true else legal k w)
 
 -- an open visit, with working copy w, is of an editable field or trigger on the cursor line; `line` is where
 -- that line is, here and below

@@ -27,12 +27,12 @@ use Rattle.session.specs.declared.answer.Stepped.{Stepped}
 -- cell, ENTER by the kind; R26: POINT flashes
 unfoldable pub pressed : Kind → Work → ℕ → Pressed
 pressed k w e =
-    if e =? up then key.upKey (profileOf k) (cellOf k (w .at)) w
-    else if e =? down then key.downKey (profileOf k) (cellOf k (w .at)) w
-    else if e =? left then key.leftKey (profileOf k) (cellOf k (w .at)) w
-    else if e =? right then key.rightKey (profileOf k) (cellOf k (w .at)) w
+    if e =? up then key.upKey (profileOf k) (cellOf k (w .cells) (w .at)) w
+    else if e =? down then key.downKey (profileOf k) (cellOf k (w .cells) (w .at)) w
+    else if e =? left then key.leftKey (profileOf k) (cellOf k (w .cells) (w .at)) w
+    else if e =? right then key.rightKey (profileOf k) (cellOf k (w .cells) (w .at)) w
     else if e =? enter then key.enterKey k w
-    else if e ≤? lastDigitKey then key.digitKey (profileOf k) (cellOf k (w .at)) w e
+    else if e ≤? lastDigitKey then key.digitKey (profileOf k) (cellOf k (w .cells) (w .at)) w e
     else key.flash w
 
 -- a visit is over: the next editable component of the line is visited, or editing ends

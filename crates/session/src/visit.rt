@@ -32,7 +32,7 @@ fn press(kind: Kind, work: Work, event: u8) -> Pressed
     ensures { λ r. ⌜ r ≡ pressed kind work event ⌝ }
 {
     let p = profile_of(kind);
-    let c = cell_of(kind, work.at as usize);
+    let c = cell_of(kind, work, work.at as usize);
     match event {
         Session::UP => up(work, p, c),
         Session::DOWN => down(work, p, c),

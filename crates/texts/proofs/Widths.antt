@@ -9,8 +9,8 @@ use borrow.Author.Tests.{leb-true, eqb-true, eqb-false, ltb-true, ltb-false}
 use Rattle.laws.specs.Choice.{if_then_else_, _and_, _=?_, _<?_}
 use Rattle.laws.proofs.Cases.{if-ind, by-test, if-lt, if-ge, if-max, and-l, and-r}
 use Rattle.field.specs.Formats.{signsOf, numeralOf, bitsOf}
-use Rattle.field.specs.Profiles.{profileOf, cellOf}
-use Rattle.field.specs.Cells.{within, legalTo, legal}
+use Rattle.field.specs.Profiles.{profileOf, cellOf, openDay, heldTo}
+use Rattle.field.specs.Cells.{within, allWithin, legal}
 use Rattle.field.specs.Settings.{digitCount, countedCells, widthFits, kindFits, settingsFit}
 use Rattle.field.specs.declared.kind.Kind.{Kind}
 use Rattle.field.specs.declared.kind.Kind.the-variants.{Integer, Counter, Time, Date, Switch, Option, Trigger}
@@ -18,6 +18,7 @@ use Rattle.field.specs.declared.kind.CounterSettings.{CounterSettings}
 use Rattle.field.specs.declared.numeral.Numeral.{Numeral}
 use Rattle.laws.specs.Bytes.{byteAt, room}
 use Rattle.field.specs.declared.record.Field.{Field}
+use Rattle.field.specs.declared.work.Work.{Work}
 use Rattle.cmf.specs.Readers.{textBytes, itemFrom, itemPlace, counterOf}
 use Rattle.cmf.specs.Layouts.{Texts, Component}
 use Rattle.cmf.specs.Grammar.{Every}
@@ -131,13 +132,13 @@ count-between low x high w a b c d =
     (omega (arith, rw (if-ge high 32768 (1 + digitCount (32768 - high)) (digitCount (high - 32768)) (omega arith)) at d, places-grow (x - 32768) (high - 32768) (omega arith))))
 
 -- a counter with good settings, at a legal value, has room
-pub counter-room : (s : CounterSettings) (cs : List ℕ) → kindFits (Counter s) ≡ true → legal (Counter s) cs ≡ true → countedCells (getD cs 0 0) ≤ s .width
-unfolding kindFits widthFits legal legalTo profileOf cellOf within
-counter-room s cs g l =
+pub counter-room : (s : CounterSettings) (v : Work) → kindFits (Counter s) ≡ true → legal (Counter s) v ≡ true → countedCells (getD (v .cells) 0 0) ≤ s .width
+unfolding kindFits widthFits legal allWithin profileOf cellOf openDay heldTo within if_then_else_
+counter-room s v g l =
     let w = and-r _ _ g in
     let i = and-r _ _ l in
-    count-between (s .min) (getD cs 0 0) (s .max) (s .width)
-    (leb-true (s .min) (getD cs 0 0) (and-l _ _ i)) (leb-true (getD cs 0 0) (s .max) (and-r _ _ i))
+    count-between (s .min) (getD (v .cells) 0 0) (s .max) (s .width)
+    (leb-true (s .min) (getD (v .cells) 0 0) (and-l _ _ i)) (leb-true (getD (v .cells) 0 0) (s .max) (and-r _ _ i))
     (leb-true (countedCells (s .min)) (s .width) (and-l _ _ w)) (leb-true (countedCells (s .max)) (s .width) (and-r _ _ w))
 
 -- ---- an option's items have room in its width, for section 7 makes it the longest
@@ -167,36 +168,36 @@ unfolding kindFits
 option-some n w h = leb-true 1 n h
 
 -- a legal option shows one of its items
-legal-item : (n w : ℕ) (cs : List ℕ) → 1 ≤ n → legal (Option n w) cs ≡ true → getD cs 0 0 < n
-unfolding legal legalTo profileOf cellOf within
-legal-item n w cs h l = omega (arith, leb-true (getD cs 0 0) (n - 1) (and-r _ _ (and-r _ _ l)))
+legal-item : (n w : ℕ) (v : Work) → 1 ≤ n → legal (Option n w) v ≡ true → getD (v .cells) 0 0 < n
+unfolding legal allWithin profileOf cellOf openDay heldTo within if_then_else_
+legal-item n w v h l = omega (arith, leb-true (getD (v .cells) 0 0) (n - 1) (and-r _ _ (and-r _ _ l)))
 
 -- a field shows as many cells as it takes, whatever legal cells it shows
 pub record Wide (im : List ℕ) (f : Field) : Type 0 where
-  pub wide : (cs : List ℕ) → legal (f .kind) cs ≡ true → length (cellsText im (f .image .0) (f .kind) cs) ≡ widthOf (f .kind)
+  pub wide : (w : Work) → legal (f .kind) w ≡ true → length (cellsText im (f .image .0) (f .kind) (w .cells)) ≡ widthOf (f .kind)
 
 -- a kind that is as wide as its cells
 plain-wide : (im : List ℕ) (f : Field) → ((cs : List ℕ) → Room im (f .image .0) (f .kind) cs) → Every (Wide im) (f ∷ [])
-plain-wide im f r = Every.add (record { wide = λ cs l. cells-width im (f .image .0) (f .kind) cs (r cs) }) Every.none
+plain-wide im f r = Every.add (record { wide = λ w l. cells-width im (f .image .0) (f .kind) (w .cells) (r (w .cells)) }) Every.none
 
 -- so does every field that section 7 gives
 pub component-wide : (im : List ℕ) (at end : ℕ) (fs : List Field) → Component im at end fs → Every (Wide im) fs
 unfolding Room settingsFit
 component-wide im at end fs (Component.integer c l g) = plain-wide im _ (λ cs. tt)
 component-wide im at end fs (Component.counter c l g) =
-    Every.add (record { wide = λ cs h. cells-width im at (Counter (counterOf im at)) cs (counter-room (counterOf im at) cs (and-l _ _ (g .good)) h) }) Every.none
+    Every.add (record { wide = λ w h. cells-width im at (Counter (counterOf im at)) (w .cells) (counter-room (counterOf im at) w (and-l _ _ (g .good)) h) }) Every.none
 component-wide im at end fs (Component.time-long c l g) = plain-wide im _ (λ cs. tt)
 component-wide im at end fs (Component.time-short c l g) = plain-wide im _ (λ cs. tt)
 component-wide im at end fs (Component.date-long c l g) = plain-wide im _ (λ cs. tt)
 component-wide im at end fs (Component.date-short c l g) = plain-wide im _ (λ cs. tt)
 component-wide im at end fs (Component.switch c l g) = plain-wide im _ (λ cs. tt)
 component-wide im at end fs (Component.option c l g) =
-    Every.add (record { wide = λ cs h. cells-width im at (Option (byteAt im (at + 7)) (byteAt im (at + 8))) cs (item-room cs h) }) Every.none
+    Every.add (record { wide = λ w h. cells-width im at (Option (byteAt im (at + 7)) (byteAt im (at + 8))) (w .cells) (item-room w h) }) Every.none
   where
-    item-room : (cs : List ℕ) → legal (Option (byteAt im (at + 7)) (byteAt im (at + 8))) cs ≡ true
-        → length (textBytes im (itemPlace im at (getD cs 0 0))) ≤ byteAt im (at + 8)
-    item-room cs h =
-        let i = legal-item (byteAt im (at + 7)) (byteAt im (at + 8)) cs (option-some _ _ (and-l _ _ (g .good))) h in
-        omega (arith, text-short im (itemPlace im at (getD cs 0 0)), texts-short im (l .items) (getD cs 0 0) i)
+    item-room : (w : Work) → legal (Option (byteAt im (at + 7)) (byteAt im (at + 8))) w ≡ true
+        → length (textBytes im (itemPlace im at (getD (w .cells) 0 0))) ≤ byteAt im (at + 8)
+    item-room w h =
+        let i = legal-item (byteAt im (at + 7)) (byteAt im (at + 8)) w (option-some _ _ (and-l _ _ (g .good))) h in
+        omega (arith, text-short im (itemPlace im at (getD (w .cells) 0 0)), texts-short im (l .items) (getD (w .cells) 0 0) i)
 component-wide im at end fs (Component.constant c b x) = Every.none
 component-wide im at end fs (Component.trigger c l) = plain-wide im _ (λ cs. tt)

@@ -1,6 +1,5 @@
 -- A counter is in range by its one cell.
 use Rattle.laws.specs.Choice.{_and_}
-use Rattle.field.specs.Profiles.{cellOf}
 use Rattle.field.specs.Cells.{within}
 use Rattle.field.proofs.Ranges.{range-of-counter}
 use borrow.Author.Tests.{le-leb, lt-leb}
@@ -27,11 +26,11 @@ biased-in-requires-3 : tie.Need-biased-in-requires-3
 biased-in-requires-3 c κs = search needs
 
 returns : tie.Need-returns
-unfolding cellOf within _and_
+unfolding within _and_
 returns c = simp (range-of-counter, ← c .before .before .before .biased-in .ensures .0, ← c .before .before .biased-in2 .ensures .0, ← c .biased-in3 .ensures .0, le-leb _ _ (c .before .if1 .taken))
 
 returns-2 : tie.Need-returns-2
-unfolding cellOf within _and_
+unfolding within _and_
 returns-2 c = simp (range-of-counter, ← c .before .before .biased-in .ensures .0, ← c .before .biased-in2 .ensures .0, lt-leb _ _ (c .if1 .left))
 
 pub counter-in-range-spec : {M : Type 1} → statement M

@@ -1,7 +1,7 @@
 -- The tests are those of the three parts.
 use mathlib.Core.Path.{refl}
-use Rattle.quick.proofs.FixedFields.{date-short-is}
 use native.Mathlib.Omega.{arith}
+use Rattle.quick.proofs.FixedFields.{date-short-is}
 use borrow.Author.Needs.{needs}
 use Rattle.quick.proofs.fixed.date_short_end.Statement.{statement}
 use Rattle.quick.proofs.fixed.date_short_end.Tie as tie
@@ -12,14 +12,17 @@ add-end c = search needs
 returns : tie.Need-returns
 returns c = λ e. absurd (omega arith)
 
-add-if2 : tie.Need-add-if2
-add-if2 c = search needs
+add-year : tie.Need-add-year
+add-year c = search needs
 
-shared-slice-read-if2 : tie.Need-shared-slice-read-if2
-shared-slice-read-if2 c = search needs
+shared-slice-read-year : tie.Need-shared-slice-read-year
+shared-slice-read-year c = search needs
 
 returns-2 : tie.Need-returns-2
 returns-2 c = λ e. absurd (omega arith)
+
+cast-date-fits : tie.Need-cast-date-fits
+cast-date-fits c = search needs
 
 date-fits-requires : tie.Need-date-fits-requires
 date-fits-requires c κs = search needs
@@ -36,9 +39,10 @@ date-short-end-spec =
     (tie.spec
     add-end
     returns
-    add-if2
-    shared-slice-read-if2
+    add-year
+    shared-slice-read-year
     returns-2
+    cast-date-fits
     date-fits-requires
     returns-3
     returns-4)

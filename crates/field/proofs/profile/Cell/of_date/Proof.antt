@@ -1,64 +1,43 @@
 -- Each return is the case of the definition that the tests on its path choose.
-use native.Mathlib.Omega.{arith}
-use Rattle.laws.proofs.Cases.{choices}
+use borrow.Author.Tests.{ne-eqb}
+use Rattle.laws.specs.Choice.{if_then_else_}
 use Rattle.field.specs.Profiles.{cellOf}
 use borrow.Author.Needs.{needs}
 use Rattle.field.proofs.profile.Cell.of_date.Statement.{statement}
 use Rattle.field.proofs.profile.Cell.of_date.Tie as tie
 
-cast-ends : tie.Need-cast-ends
-cast-ends c = search needs
-
-ends-requires : tie.Need-ends-requires
-ends-requires c κs = search needs
+year-requires : tie.Need-year-requires
+year-requires c κs = search needs
 
 returns : tie.Need-returns
-unfolding cellOf
-returns c = search (choices, arith)
+unfolding cellOf if_then_else_
+returns c = simp (c .year .ensures, c .before .if1 .taken)
 
-cast-ends-2 : tie.Need-cast-ends-2
-cast-ends-2 c = search needs
-
-ends-requires-2 : tie.Need-ends-requires-2
-ends-requires-2 c κs = search needs
+month-requires : tie.Need-month-requires
+month-requires c κs = search needs
 
 returns-2 : tie.Need-returns-2
-unfolding cellOf
-returns-2 c = search (choices, arith)
+unfolding cellOf if_then_else_
+returns-2 c = simp (c .month .ensures, c .before .if2 .taken)
 
-cast-ends-3 : tie.Need-cast-ends-3
-cast-ends-3 c = search needs
+end-of-requires : tie.Need-end-of-requires
+end-of-requires c κs = search needs
 
-ends-requires-3 : tie.Need-ends-requires-3
-ends-requires-3 c κs = search needs
+day-requires : tie.Need-day-requires
+day-requires c κs = search needs
 
 returns-3 : tie.Need-returns-3
-unfolding cellOf
-returns-3 c = search (choices, arith)
-
-cast-ends-4 : tie.Need-cast-ends-4
-cast-ends-4 c = search needs
-
-ends-requires-4 : tie.Need-ends-requires-4
-ends-requires-4 c κs = search needs
-
-returns-4 : tie.Need-returns-4
-unfolding cellOf
-returns-4 c = search (choices, arith)
+unfolding cellOf if_then_else_
+returns-3 c = simp (c .day .ensures, c .before .end-of .ensures (c .before .before .before .before .args .long), ne-eqb _ _ (c .before .before .before .if1 .left), ne-eqb _ _ (c .before .before .if2 .left))
 
 pub of-date-spec : {M : Type 1} → statement M
 of-date-spec =
     tie.close
     (tie.spec
-    cast-ends
-    ends-requires
+    year-requires
     returns
-    cast-ends-2
-    ends-requires-2
+    month-requires
     returns-2
-    cast-ends-3
-    ends-requires-3
-    returns-3
-    cast-ends-4
-    ends-requires-4
-    returns-4)
+    end-of-requires
+    day-requires
+    returns-3)

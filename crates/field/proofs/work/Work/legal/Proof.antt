@@ -4,12 +4,13 @@ use native.Mathlib.Omega.{arith}
 use Prim.Native.Nat.{_≤_, _-_}
 use mathlib.Core.Path.{_≡_, refl}
 use native.Mathlib.Numerals.{add-one}
-use Rattle.field.specs.Cells.{legalTo, legal}
+use Rattle.field.specs.Cells.{allWithin, legal}
+use Rattle.field.specs.Profiles.{heldTo}
 use Rattle.field.proofs.work.Work.legal.Statement.{statement}
 use Rattle.field.proofs.work.Work.legal.Tie as tie
 
 abbrev Inv-loop : tie.InvT-loop
-Inv-loop self kind count ok₀ i₀ ok i = (ok ≡ legalTo kind (self .cells) i) × (i ≤ count)
+Inv-loop self kind count ok₀ i₀ ok i = (ok ≡ allWithin (heldTo kind self) (self .cells) i) × (i ≤ count)
 
 abbrev μ-loop : tie.MeasureT-loop
 μ-loop self kind count ok₀ i₀ ok i = count - i
@@ -21,7 +22,7 @@ cast-count : tie.Need-cast-count Inv-loop μ-loop
 cast-count c = search needs
 
 loop-holds : tie.Need-loop-holds Inv-loop μ-loop
-unfolding legalTo
+unfolding allWithin
 loop-holds c = (refl, omega arith)
 
 also-within-requires : tie.Need-also-within-requires Inv-loop μ-loop
@@ -34,7 +35,7 @@ loop-less : tie.Need-loop-less Inv-loop μ-loop
 loop-less c = omega arith
 
 loop-again : tie.Need-loop-again Inv-loop μ-loop
-unfolding legalTo
+unfolding allWithin
 loop-again c = (simp (add-one, c .also-within .ensures, c .before .before .loop .inv .0), omega arith)
 
 returns : tie.Need-returns Inv-loop μ-loop
