@@ -11,3 +11,4 @@ pub mod Apart
 pub mod Counted
 pub mod Fitting
 pub mod CodeRanges
+pub mod Dates
