@@ -33,7 +33,7 @@ use Rattle.journal.proofs.Components.{editable-holds, in-member, member-in, Edi
 use Rattle.journal.proofs.Reached.{cursor-line-in}
 use Rattle.journal.proofs.Executor.{pressed-says, work-legal}
 use Rattle.promises.proofs.Fitting.{Good, fits-of, Keeps, by-keeps, idle-good, doing-good, browsing-good}
-use Rattle.promises.proofs.WorkingCopies.{Ready, editable-ready, legal-fits, begun-legal, begun-cells, pressed-legal, pressed-long}
+use Rattle.promises.proofs.WorkingCopies.{Ready, component-ready, legal-fits, begun-legal, begun-cells, pressed-legal, pressed-long}
 
 -- ---- the steps, for a session that fits an image which is well formed
 
@@ -42,9 +42,9 @@ module _ (im : List ℕ) (c l : ℕ) (shape : shapeFits c l ≡ true) (n : ℕ) 
   abbrev lineOf : Session → List ℕ
   lineOf s = componentsOf im (cursorLine im (s .here))
 
-  -- an editable one can be visited
-  line-ready : (s : Session) → Good im c l s → (q : ℕ) → List·Memᴰ q (lineOf s) → componentAt im q .editable ≡ true → Ready (componentAt im q .field)
-  line-ready s g q m e = editable-ready im q e (part-of (cursor-line-in im n w s (fits-of im c l s shape g) .line .parts) q m .refusal)
+  -- each can be visited
+  line-ready : (s : Session) → Good im c l s → (q : ℕ) → List·Memᴰ q (lineOf s) → Ready (componentAt im q .field)
+  line-ready s g q m = component-ready im q (part-of (cursor-line-in im n w s (fits-of im c l s shape g) .line .parts) q m .refusal)
 
   module _ (s : Session) (g : Good im c l s) where
     -- a visit of an editable component of the line, with a legal working copy
@@ -57,7 +57,7 @@ module _ (im : List ℕ) (c l : ℕ) (shape : shapeFits c l ≡ true) (n : ℕ) 
 
     -- a visit that begins
     begun-good : (sheet : List ℕ) (q : ImagePlace) → List·Memᴰ (q .0) (lineOf s) → componentAt im (q .0) .editable ≡ true → Good im c l (visitAt im sheet s q)
-    begun-good sheet q m e = visit-good q _ m e (begun-legal _ sheet (line-ready s g (q .0) m e)) (begun-cells (componentAt im (q .0) .field) sheet)
+    begun-good sheet q m e = visit-good q _ m e (begun-legal _ sheet (line-ready s g (q .0) m)) (begun-cells (componentAt im (q .0) .field) sheet)
 
     -- ENTER while browsing
     pub enter-keeps : (sheet : List ℕ) → Keeps im c l (enterStep im sheet s)

@@ -2,6 +2,7 @@ pub mod Fitting
 pub mod FittingEntries
 pub mod WorkingCopies
 pub mod FittingVisits
+pub mod InRange
 pub mod Unrefused
 pub mod Lines
 pub mod Steps

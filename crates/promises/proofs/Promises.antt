@@ -32,7 +32,7 @@ use Rattle.picture.specs.declared.cursor.EditCursor.the-variants.{Nowhere, At}
 use Rattle.handset.specs.Refusals.{_before_, _unless_, sessionRefusal}
 use Rattle.handset.specs.Event.{eventRefusal, eventAnswer}
 use Rattle.handset.specs.Open.{openRefusal, openAnswer, openSheet}
-use Rattle.handset.specs.OptionText.{itemsIn, textRefusal, optionText}
+use Rattle.handset.specs.OptionText.{itemsIn, textRefusal}
 use Rattle.handset.specs.Draw.{drawRefusal, drawCursor, drawnPicture}
 use Rattle.handset.proofs.Ordering.{first-given, next-given, holding, failing, none-before, none-unless}
 use Rattle.handset.proofs.Drawing.{refused-cursor, refused-picture, drawn-cursor, drawn-picture}
@@ -50,6 +50,7 @@ use Rattle.promises.specs.Demand3.{Demand3, Candidate, start, visitsAt, 
 use Rattle.journal.proofs.Sittings.{formed, at-default, sheet-holds-journal, default-changed-by-own-visits, own-visits-finish}
 use Rattle.journal.proofs.Beside.{played-apart}
 use Rattle.protected.proofs.Protected.{only-after-its-digits, every-protected-line-was-opened-by-its-digits}
+use Rattle.promises.proofs.InRange.{ends-in-range, ends-real}
 use Rattle.promises.proofs.Unrefused.{never-refused, opened-long, played-long}
 use Rattle.handset.proofs.Answering.{event-told, told-apart}
 use Rattle.promises.proofs.Lines.{cursors-agree}
@@ -279,6 +280,8 @@ demand-3 im = record {
   journal = λ c. sheet-holds-journal im (c .sheet) (c .columns) (c .lines) (c .accepted) (c .events);
   visits = λ c q f. default-changed-by-own-visits im (c .sheet) (c .columns) (c .lines) (c .accepted) (c .events) q f;
   finishes = λ c q. own-visits-finish im (c .sheet) (c .columns) (c .lines) (c .accepted) (c .events) q;
+  dates = ends-real im;
+  in-range = λ h c q f. ends-in-range im c q f h;
   candidates = λ a b q f h. two-candidates im a b q f h;
   beside = λ c from n b.
       played-apart im from n b (c .events) (start c)

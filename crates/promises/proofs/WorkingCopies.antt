@@ -1,8 +1,8 @@
--- The working copy of a visit: an editable component that reads without fault has a cell and a default in range, so that its visit starts legal;
+-- The working copy of a visit: a component that reads without fault has a cell and a default in range, so that its visit starts legal;
 -- and every key keeps the copy legal, with as many cells as it had.
 use Prim.Native.Nat.{ℕ, _≤_, _<_}
 use mathlib.Core.Path.{_≡_, refl}
-use mathlib.Core.Bool.{Bool, true, false, false≢true}
+use mathlib.Core.Bool.{Bool, true, false}
 use mathlib.Core.List.{List}
 use native.Mathlib.Omega.{arith}
 use lib.ListN.{length, length-set}
@@ -26,6 +26,7 @@ use Rattle.field.specs.declared.work.Work.{Work}
 use Rattle.keys.specs.declared.press.Pressed.{Pressed}
 use Rattle.keys.specs.declared.press.Outcome.{Outcome}
 use Rattle.field.proofs.Legal.{Legal, legal-bool}
+use Rattle.field.proofs.Ranges.{range-of-trigger}
 use Rattle.keys.proofs.Kept.{up-legal, down-legal, left-legal, right-legal, digit-legal, enter-legal}
 use Rattle.field.proofs.Trip.{started-legal}
 use Rattle.cmf.specs.Readers.{kindAt, fieldBy, componentAt}
@@ -117,11 +118,16 @@ settings-ready : (im : List ℕ) (p code : ℕ) → settingsFit (kindAt im p cod
 unfolding settingsFit
 settings-ready im p code h = record { cell = kind-celled im p code .cell (and-l _ _ h); default = and-r _ _ h }
 
--- so an editable component that reads without fault holds one
-pub editable-ready : (im : List ℕ) (p : ℕ) → componentAt im p .editable ≡ true → componentAt im p .refusal ≡ 0 → Ready (componentAt im p .field)
-editable-ready im p =
-    by-reading im p (λ (x : Component). x .editable ≡ true → x .refusal ≡ 0 → Ready (x .field)) (λ k e. absurd (false≢true e))
-    (λ code tag end t g e z. settings-ready im p code (no-fault (settingsFit (kindAt im p code) (fieldBy im p code .default)) z))
+-- a trigger is one, whatever its settings
+trigger-ready : (im : List ℕ) (p : ℕ) → Ready (fieldBy im p 0x17)
+unfolding kindAt kindFits if_then_else_
+trigger-ready im p = record { cell = trigger-celled .cell refl; default = range-of-trigger _ }
+
+-- so a component that reads without fault holds one: what is no field of ours counts as a trigger
+pub component-ready : (im : List ℕ) (p : ℕ) → componentAt im p .refusal ≡ 0 → Ready (componentAt im p .field)
+component-ready im p =
+    by-reading im p (λ (x : Component). x .refusal ≡ 0 → Ready (x .field)) (λ k z. trigger-ready im p)
+    (λ code tag end t g z. settings-ready im p code (no-fault (settingsFit (kindAt im p code) (fieldBy im p code .default)) z))
 
 -- ---- working copies
 

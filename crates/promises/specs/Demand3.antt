@@ -1,11 +1,17 @@
 -- Demand 3: whole sittings. Every clause is a theorem, for every image and every list of events.
-use Prim.Native.Nat.{ℕ}
+use Prim.Native.Nat.{ℕ, _/_, _%_, _<_}
 use mathlib.Core.Path.{_≡_}
+use mathlib.Core.Bool.{Bool, true}
 use mathlib.Core.List.{List}
 use lib.ListN.{length}
+use Rattle.laws.specs.Bytes.{byteAt}
 use Rattle.laws.specs.Parts.{partAt}
+use Rattle.laws.specs.Digits.{fromLow}
+use Rattle.field.specs.Calendar.{RealDate}
 use Rattle.field.specs.Values.{bytesOf}
+use Rattle.field.specs.Cells.{inRange}
 use Rattle.field.specs.Sheet.{ownBytes}
+use Rattle.field.specs.declared.kind.Kind.the-variants.{Date}
 use Rattle.handset.specs.Open.{openRefusal}
 use Rattle.journal.specs.Journal.{allVisited, AllFinish, journalOf}
 use Rattle.journal.specs.Rules.{fieldAt, rulesOf, IsField, Beside, HoldsJournal}
@@ -45,6 +51,13 @@ pub record Demand3 (im : List ℕ) : Type 0 where
   -- a visit is what its name says: its last key is an ENTER that stores, and no key before it does
   pub finishes : (c : Candidate im) (q : ℕ)
       → AllFinish (rulesOf im) q (bytesOf (fieldAt im q .default)) (visitsAt c q)
+  -- 02, No. 3: at the end each date is real: year, month and day of its bytes as one number
+  pub dates : (c : Candidate im) (q : ℕ) → IsField im q → (long : Bool) → fieldAt im q .kind ≡ Date long
+      → RealDate long (fromLow (bytesAt c q) / 65536) (fromLow (bytesAt c q) / 256 % 256)
+      (fromLow (bytesAt c q) % 256)
+  -- and in an image of bytes every field's number is in its range
+  pub in-range : ((i : ℕ) → byteAt im i < 256) → (c : Candidate im) (q : ℕ) → IsField im q
+      → inRange (fieldAt im q .kind) (fromLow (bytesAt c q)) ≡ true
   -- two candidates with the same finished visits at a field have the same bytes there, whatever else they did
   pub candidates : (a b : Candidate im) (q : ℕ) → IsField im q → visitsAt a q ≡ visitsAt b q
       → bytesAt a q ≡ bytesAt b q
