@@ -186,7 +186,7 @@ static bool work_fits(const uint8_t *component, const struct session *s)
         if (s->cell >= part_count(code)) return false;
         for (unsigned i = 0; i < part_count(code); i++)
             if (!in_range(work->parts[i], parts_for(code)[i].low, parts_for(code)[i].high)) return false;
-        return true;
+        return work->parts[s->cell] <= part_most(code, s->cell, work->parts);
     case SWITCHING: return s->cell < component[ITEMS] && switch_ok(work->bits, component[ITEMS]);
     case CHOOSING: return work->item < component[ITEMS];
     default: return true;
@@ -383,13 +383,13 @@ static bool counter_key(const uint8_t *component, struct session *s, unsigned ke
     return true;
 }
 
-static bool part_key(const struct part *part, struct session *s, unsigned key)
+static bool part_key(unsigned code, struct session *s, unsigned key)
 {
     uint16_t *value = &s->work.parts[s->cell];
 
-    if (key == HANDSET_UP && *value < part->high)
+    if (key == HANDSET_UP && *value < part_most(code, s->cell, s->work.parts))
         ++*value;
-    else if (key == HANDSET_DOWN && *value > part->low)
+    else if (key == HANDSET_DOWN && *value > parts_for(code)[s->cell].low)
         --*value;
     else
         return false;
@@ -420,6 +420,15 @@ static bool option_key(unsigned count, struct session *s, unsigned key)
     return true;
 }
 
+/* Goes on to the next part. Only a day can be past its most there, and is lowered to the month's end. */
+INLINE void next_part(unsigned code, struct session *s)
+{
+    unsigned cell = ++s->cell;
+    unsigned most = part_most(code, cell, s->work.parts);
+
+    if (s->work.parts[cell] > most) s->work.parts[cell] = (uint16_t)most;
+}
+
 /* ENTER in a visit: the next part, or the end of the visit and on to the next editable component. */
 static uint32_t visit_enter(const uint8_t *image, uint8_t *sheet, struct session *s)
 {
@@ -429,7 +438,7 @@ static uint32_t visit_enter(const uint8_t *image, uint8_t *sheet, struct session
     uint32_t answer = HANDSET_TAKEN;
 
     if (forms[code].kind == PARTS && s->cell + 1u < part_count(code)) {
-        s->cell++;
+        next_part(code, s);
         return HANDSET_TAKEN;
     }
     if (code != TRIGGER) {
@@ -451,7 +460,7 @@ static uint32_t visit_key(const uint8_t *image, uint8_t *sheet, struct session *
     switch (forms[code].kind) {
     case INTEGER: taken = integer_key(&forms[code], s, key); break;
     case COUNTING: taken = counter_key(component, s, key); break;
-    case PARTS: taken = part_key(&parts_for(code)[s->cell], s, key); break;
+    case PARTS: taken = part_key(code, s, key); break;
     case SWITCHING: taken = switch_key(component[ITEMS], s, key); break;
     case CHOOSING: taken = option_key(component[ITEMS], s, key); break;
     default: /* a trigger: any cursor key fires it */

@@ -71,6 +71,8 @@ static const struct form forms[CODE_BITS + 1] = {
 };
 
 /* Times and dates: their parts in the order shown. */
+enum { YEAR, MONTH, DAY }; /* of a date */
+
 struct part {
     uint16_t low, high;
     uint8_t cell, digits;
@@ -120,11 +122,31 @@ INLINE bool counts(const uint8_t *component, int32_t value)
     return in_range(value, (int16_t)get16(component + COUNTER_MIN), (int16_t)get16(component + COUNTER_MAX));
 }
 
+/* The Gregorian rule. A short year needs no 2000 added: it is leap exactly when 2000 plus it is. */
+INLINE bool is_leap(unsigned year) { return year % 4 == 0 && (year % 100 != 0 || year % 400 == 0); }
+
+INLINE unsigned days_in_month(unsigned year, unsigned month)
+{
+    static const uint8_t days[12] = {31, 28, 31, 30, 31, 30, 31, 31, 30, 31, 30, 31};
+
+    return month == 2 && is_leap(year) ? 29 : days[month - 1];
+}
+
 /* Bytes of a time or date. A date is stored day, month, year. */
 static bool parts_ok(const uint8_t *p, unsigned code)
 {
+    unsigned year;
+
     if (code <= TIME_SHORT) return p[0] <= 23 && p[1] <= 59 && (code == TIME_SHORT || p[2] <= 59);
-    return p[0] - 1u <= 30 && p[1] - 1u <= 11 && (code == DATE_LONG ? get16(p + 2) <= 9999 : p[2] <= 99);
+    year = code == DATE_LONG ? get16(p + 2) : p[2];
+    return year <= parts_for(code)[YEAR].high && p[1] - 1u <= 11 && p[0] - 1u < days_in_month(year, p[1]);
+}
+
+/* The most that a part may be while it is edited: a day goes to the month's end. */
+static unsigned part_most(unsigned code, unsigned cell, const uint16_t *parts)
+{
+    if (code >= DATE_LONG && cell == DAY) return days_in_month(parts[YEAR], parts[MONTH]);
+    return parts_for(code)[cell].high;
 }
 
 /* Bits at or above the stated count, 1 to 32, are 0. */
