@@ -64,7 +64,7 @@ short y m d r = record { long = false; year = y; month = m; day = d; real = r }
 
 unfoldable pub argued : List Case
 argued =
-    -- year 0 is a leap year, and so are 2000 and 2400
+    -- leap years: 0, 2000 and 2400
     long 0 2 29 true
     ∷ long 2000 2 29 true
     ∷ long 2400 2 29 true

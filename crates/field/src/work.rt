@@ -107,7 +107,7 @@ impl Work {
         }
     }
 
-    // Whether ENTER can store what the cells show.
+    // Whether the last ENTER can store what the cells show.
     pub fn stores(self, kind: Kind) -> bool
         ensures { λ r. ⌜ r ≡ stores kind (self .cells) ⌝ }
     {
@@ -139,7 +139,7 @@ impl Work {
         false
     }
 
-    // Whether each cell is within its ends.
+    // Whether each cell is within the ends of the row that it is held to.
     pub fn legal(self, kind: Kind) -> bool
         ensures { λ r. ⌜ r ≡ legal kind self ⌝ }
     {

@@ -1,5 +1,5 @@
--- Dates in a visit (02, No. 3). ENTER leaves cells that are in range as they are; from the month it makes the day the least of itself and the
--- month's end; and what the last ENTER stores is a real date.
+-- Dates in a visit (02, No. 3). ENTER leaves cells that are in range as they are; after ENTER from the month the day is the smaller of what it was
+-- and the month's last; and what the last ENTER stores is a real date.
 use Prim.Native.Nat.{ℕ, _+_, _≤_, _<_, min}
 use mathlib.Core.Path.{_≡_, refl, ap}
 use mathlib.Core.Bool.{Bool, true, false}
