@@ -11,7 +11,7 @@ use field::record::Field;
 use laws::has_triple;
 
 // A reached field: the place of its component's tag in the image, and its bytes in the sheet.
-#[derive(Drop)]
+#[derive(Clone, Copy)]
 pub struct Entry {
     pub place: ImagePlace,
     pub from: SheetPlace,

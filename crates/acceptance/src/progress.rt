@@ -4,7 +4,7 @@ ghost use Rattle.acceptance.specs.Check.{refused, read_to, past_line};
 
 // The refusal number, 0 for none yet; where the last structure without fault ended; how many lines and fields
 // are without fault.
-#[derive(Drop)]
+#[derive(Clone, Copy)]
 pub struct Progress {
     pub refusal: u8,
     pub at: usize,

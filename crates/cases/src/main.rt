@@ -1,4 +1,6 @@
 // The cases that tests/cases.py has, with what each must print worked out by hand.
+#![tactic(auto)]
+
 fn main() {
     let mut image = io::large_buffer();
     let mut sheet = io::large_buffer();

@@ -20,7 +20,7 @@ use laws::{byte_at, room, word_at};
 
 // refusal: 0, or 6, 7 or 9. fielded: it is a field, and no constant string. next: the place of the next
 // component.
-#[derive(Drop)]
+#[derive(Clone, Copy)]
 pub struct Component {
     pub refusal: u8,
     pub last: bool,

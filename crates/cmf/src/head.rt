@@ -13,7 +13,7 @@ use laws::{byte_at, room, word_at};
 // refusal: 0, or 6 or 7. typeable: its password, if it has one, is of 1 to 8 digits. last: of its table.
 // next, table, password, component: the places of the next line, of the submenu's table, of the password, of
 // the first component; without meaning if it has none.
-#[derive(Drop)]
+#[derive(Clone, Copy)]
 pub struct Head {
     pub refusal: u8,
     pub typeable: bool,

@@ -7,14 +7,14 @@ use laws::byte_at;
 
 // The prolog's delays that a session asks for, in seconds, 0 for never: delay-to-top, and delay-password,
 // which ends a password entry.
-#[derive(Drop)]
+#[derive(Clone, Copy)]
 pub struct Delays {
     pub top: u8,
     pub password: u8,
 }
 
 // What an image says of itself as a whole.
-#[derive(Drop)]
+#[derive(Clone, Copy)]
 pub struct Image {
     pub delays: Delays,
 }

@@ -15,14 +15,14 @@ use field::kind::ImagePlace;
 use laws::room;
 
 // What is looked for in an image: it is at a place, or there is none.
-#[derive(Drop)]
+#[derive(Clone, Copy)]
 pub enum Found {
     At(ImagePlace),
     Nothing,
 }
 
 // Of a line's head what leads on: whether the line is the last of its table, and the place of the next line.
-#[derive(Drop)]
+#[derive(Clone, Copy)]
 struct Step {
     last: bool,
     next: ImagePlace,

@@ -8,7 +8,7 @@ use crate::image::Image;
 use laws::{byte_at, room};
 
 // Whether the texts are all in the image, where they end, and the length of the longest.
-#[derive(Drop)]
+#[derive(Clone, Copy)]
 pub struct Run {
     pub fits: bool,
     pub end: usize,

@@ -6,7 +6,7 @@ use crate::text::read_texts;
 use field::kind::ImagePlace;
 
 // Where the title ends, and where the table's first line is; refusal 6: not all of it is in the image.
-#[derive(Drop)]
+#[derive(Clone, Copy)]
 pub struct Title {
     pub refusal: u8,
     pub end: usize,

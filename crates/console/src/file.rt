@@ -7,7 +7,7 @@ use libc::{STDERR_FILENO, STDIN_FILENO};
 pub const IMAGE_ROOM: usize = Image::MAX_BYTES + 1;
 
 // Whether a file was read to its end, or as far as there was room, and how many bytes came.
-#[derive(Drop)]
+#[derive(Clone, Copy)]
 pub struct Found {
     pub whole: bool,
     pub count: usize,

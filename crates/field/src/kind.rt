@@ -3,16 +3,16 @@ ghost use Rattle.std.specs.Prelude.{◌≡◌};
 ghost use Rattle.field.specs.Formats.{format_of};
 
 // A place in the image, counted from 0.
-#[derive(Drop)]
+#[derive(Clone, Copy)]
 pub struct ImagePlace(pub usize);
 
 // A place in the sheet, counted from 0. The sheet is the paper's term for the bytes that hold a candidate's
 // answers.
-#[derive(Drop)]
+#[derive(Clone, Copy)]
 pub struct SheetPlace(pub usize);
 
 // An integer's cells: two bytes or one, with a sign or without, to the base 16 or 10, and how many digits.
-#[derive(Drop)]
+#[derive(Clone, Copy)]
 pub struct Format {
     pub wide: bool,
     pub signed: bool,
@@ -22,7 +22,7 @@ pub struct Format {
 
 // A counter: min and max with 32,768 added, the step as it is stored (32,768 and above are negative), and the
 // width in display cells.
-#[derive(Drop)]
+#[derive(Clone, Copy)]
 pub struct CounterSettings {
     pub min: u16,
     pub max: u16,
@@ -32,7 +32,7 @@ pub struct CounterSettings {
 
 // The flag of a time or date: with seconds, or with four digits for the year. A switch has a count of bits,
 // an option its count of items and the length of the longest.
-#[derive(Drop)]
+#[derive(Clone, Copy)]
 pub enum Kind {
     Integer(Format),
     Counter(CounterSettings),

@@ -14,7 +14,7 @@ use laws::digits::{first_digit, lowest_digits, power_of_ten};
 
 // Sign cells, digit cells, base; the range, from `below` below 0 to `above` above it; how many numbers its
 // bytes can hold.
-#[derive(Drop)]
+#[derive(Clone, Copy)]
 pub struct Numeral {
     pub signs: u8,
     pub digits: u8,

@@ -14,7 +14,7 @@ use crate::work::Work;
 
 // A kind's cells and bytes, and what keys do: LEFT and RIGHT move, LEFT and RIGHT step, ENTER goes from part
 // to part, cursor keys fire.
-#[derive(Drop)]
+#[derive(Clone, Copy)]
 pub struct Profile {
     pub cells: u8,
     pub bytes: u8,
@@ -25,7 +25,7 @@ pub struct Profile {
 }
 
 // A cell's ends and step; whether UP and DOWN set it, and whether digit keys do.
-#[derive(Drop)]
+#[derive(Clone, Copy)]
 pub struct Cell {
     pub low: u32,
     pub high: u32,

@@ -9,7 +9,7 @@ use crate::work::Work;
 
 // Where the component's tag is in the image, where the bytes lie in the sheet (a trigger has none), what the
 // field is, and its default, of as many bytes as the kind has.
-#[derive(Drop)]
+#[derive(Clone, Copy)]
 pub struct Field {
     pub image: ImagePlace,
     pub sheet: SheetPlace,

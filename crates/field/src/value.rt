@@ -8,7 +8,7 @@ use crate::kind::SheetPlace;
 use laws::byte_at;
 
 // The first count of the bytes, at most four; those past them are not looked at.
-#[derive(Drop)]
+#[derive(Clone, Copy)]
 pub struct Value {
     pub bytes: [u8; 4],
     pub count: u8,

@@ -13,7 +13,7 @@ use crate::profile::{Cell, held_to, profile_of};
 use crate::value::Value;
 
 // The cells of a visit (a visit is the paper's term for one editing of a field), and the chosen cell.
-#[derive(Drop)]
+#[derive(Clone, Copy)]
 pub struct Work {
     pub cells: [u32; Work::CELLS],
     pub at: u8,

@@ -11,7 +11,7 @@ use picture::picture::put_picture;
 use session::session::Session;
 
 // The refusal number, 0 for none, and the edit cursor: nowhere where it is refused.
-#[derive(Drop)]
+#[derive(Clone, Copy)]
 pub struct Drawn {
     pub refusal: u8,
     pub cursor: EditCursor,

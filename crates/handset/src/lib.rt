@@ -1,4 +1,6 @@
 // The public calls of the menu executor, and the list of an image's fields.
+#![tactic(auto)]
+
 pub mod draw;
 pub mod event;
 pub mod fields;

@@ -9,7 +9,7 @@ use session::fits::shape_fits;
 use session::session::Session;
 
 // The refusal number, 0 for none, and the session: closed where it is refused.
-#[derive(Drop)]
+#[derive(Clone, Copy)]
 pub struct Opened {
     pub refusal: u8,
     pub session: Session,

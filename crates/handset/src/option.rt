@@ -14,7 +14,7 @@ use walk::check::check;
 
 // Where an item's own bytes are in the image: the place of the first and how many; both 0 where the call is
 // refused.
-#[derive(Drop)]
+#[derive(Clone, Copy)]
 pub struct TextPlace {
     pub refusal: u8,
     pub start: ImagePlace,

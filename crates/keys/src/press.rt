@@ -11,7 +11,7 @@ use field::work::Work;
 
 // What a key came to. Taken: the visit goes on. Flash: it stays as it was. NextPart: ENTER went to the next
 // part of a time or date. Done: the last ENTER. Fired: a cursor key on a trigger. Passed: ENTER on a trigger.
-#[derive(Drop)]
+#[derive(Clone, Copy)]
 pub enum Outcome {
     Taken,
     Flash,
@@ -21,7 +21,7 @@ pub enum Outcome {
     Passed,
 }
 
-#[derive(Drop)]
+#[derive(Clone, Copy)]
 pub struct Pressed {
     pub work: Work,
     pub outcome: Outcome,

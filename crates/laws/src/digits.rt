@@ -25,7 +25,7 @@ pub fn power_of_ten(n: u8) -> u32
 }
 
 // The first of a number's digits, and what the others show.
-#[derive(Drop)]
+#[derive(Clone, Copy)]
 pub struct Digit {
     pub digit: u32,
     pub rest: u32,

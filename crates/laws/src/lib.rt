@@ -1,6 +1,8 @@
 // What every crate uses and what knows nothing of menus: reads and writes of byte slices that are total,
 // triples, decimal digits, and in specs/ and proofs/ the choice, parts, overwriting and digits with their
 // laws.
+#![tactic(auto)]
+
 pub mod digits;
 
 ghost use Rattle.std.specs.Prelude.{◌≡◌, ◌/◌, length};

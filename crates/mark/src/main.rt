@@ -1,5 +1,7 @@
 // A sheet marked at the desk in one command: `mark IMAGE SHEET KEY` prints a line for each question of the
 // key, with the way to it through the menu, and then the points right, wrong and blank; or the refusal.
+#![tactic(auto)]
+
 mod byte;
 mod key;
 mod path;

@@ -10,7 +10,7 @@ use console::words::{say, say_plain};
 
 // The places of the first count lines, the field's own first and the top table's last; none where no line has
 // the field.
-#[derive(Drop)]
+#[derive(Clone, Copy)]
 struct Path {
     count: usize,
     lines: [usize; Image::MAX_DEPTH],

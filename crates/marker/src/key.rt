@@ -9,7 +9,7 @@ use field::record::Field;
 use laws::has_triple;
 
 // A question: the place of its byte in the sheet, the right byte, and its points.
-#[derive(Drop)]
+#[derive(Clone, Copy)]
 pub struct Question {
     pub place: SheetPlace,
     pub right: u16,

@@ -13,7 +13,7 @@ use handset::fields::list_fields;
 use laws::{byte_at, has_triple};
 
 // The points right, wrong and blank; or the refusal number, and no sums.
-#[derive(Drop)]
+#[derive(Clone, Copy)]
 pub enum Marked {
     Sums { right: u32, wrong: u32, blank: u32 },
     Refused(u8),
@@ -23,7 +23,7 @@ pub enum Marked {
 pub const NO_KEY: u8 = 15;
 
 // The points counted so far.
-#[derive(Drop)]
+#[derive(Clone, Copy)]
 struct Tally {
     right: u32,
     wrong: u32,

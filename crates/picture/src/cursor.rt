@@ -12,7 +12,7 @@ use session::session::{Mode, Session};
 use texts::text::{less, width_of, year_cells};
 
 // None, or its row and column, both from 0.
-#[derive(Drop)]
+#[derive(Clone, Copy)]
 pub enum EditCursor {
     Nowhere,
     At { row: usize, column: usize },

@@ -16,7 +16,7 @@ use texts::row::{pad, put, smaller};
 
 // Where a line's data end, and its mark in row 0: whether a component is editable, or 0 where the row does
 // not tell.
-#[derive(Drop)]
+#[derive(Clone, Copy)]
 struct Marked {
     end: usize,
     mark: u8,

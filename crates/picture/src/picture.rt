@@ -20,7 +20,7 @@ use texts::row::pad;
 
 // What is known of the shown table: how many lines it has, as far as they are looked at, where one of them
 // is, and its mark in row 0, or 0.
-#[derive(Drop)]
+#[derive(Clone, Copy)]
 struct Known {
     count: usize,
     place: ImagePlace,

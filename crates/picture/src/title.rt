@@ -107,7 +107,7 @@ fn put_password(row: &mut [u8], image: &[u8], session: Session, line: usize, typ
 }
 
 // Whether the entry of a password is open, and so many digits are typed.
-#[derive(Drop)]
+#[derive(Clone, Copy)]
 struct Entry {
     open: bool,
     typed: u8,

@@ -11,7 +11,7 @@ use session::session::Session;
 
 // The refusal number, 0 for none; how many events were played; and the session after them, closed where the
 // replay is refused.
-#[derive(Drop)]
+#[derive(Clone, Copy)]
 pub struct Replayed {
     pub refusal: u8,
     pub events: usize,

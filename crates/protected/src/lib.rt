@@ -1,1 +1,2 @@
 // Theorems alone: a protected line opens its submenu only after its own digits.
+#![tactic(auto)]

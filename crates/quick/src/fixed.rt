@@ -242,7 +242,7 @@ fn date_short_end(image: &[u8], at: usize) -> usize
 }
 
 // Where a field ends in the image, 0 in doubt, and how many bytes it has in the sheet.
-#[derive(Drop)]
+#[derive(Clone, Copy)]
 struct Measure {
     end: usize,
     size: usize,

@@ -1,5 +1,7 @@
 // The quick walk: it tells an image without fault by a few tests on its bytes, and leaves every other to the
 // check.
+#![tactic(auto)]
+
 pub mod accept;
 mod claim;
 mod components;

@@ -7,7 +7,7 @@ use crate::tally::Tally;
 use field::kind::ImagePlace;
 
 // In the line at a place, which has n lines of its table before it. Done: all its components are passed.
-#[derive(Drop)]
+#[derive(Clone, Copy)]
 pub struct Position {
     pub tally: Tally,
     pub n: usize,

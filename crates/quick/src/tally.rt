@@ -4,7 +4,7 @@ ghost use Rattle.quick.specs.Accept.{titled};
 
 // How far the walk came: where the last thing ended, how many lines and fields there are. Not good: something
 // gave it doubt.
-#[derive(Drop)]
+#[derive(Clone, Copy)]
 pub struct Tally {
     pub sure: bool,
     pub at: usize,

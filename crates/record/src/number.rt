@@ -6,7 +6,7 @@ ghost use Rattle.laws.specs.Parts.{put_at};
 ghost use Rattle.record.specs.Numbers.{encoded, behind, number_at};
 
 // What is at a place: a number and the place after it, or bytes that break the rules.
-#[derive(Drop)]
+#[derive(Clone, Copy)]
 pub enum Read {
     Broken,
     Number(u16, usize),

@@ -13,7 +13,7 @@ use session::session::Session;
 
 // The refusal number, 0 for none; the number of events, and the place of the first, 0 where the record is
 // refused. The events are the bytes from there on.
-#[derive(Drop)]
+#[derive(Clone, Copy)]
 pub struct Checked {
     pub refusal: u8,
     pub events: usize,
@@ -21,7 +21,7 @@ pub struct Checked {
 }
 
 // The number of events and the place after it, or why the record is refused before any event.
-#[derive(Drop)]
+#[derive(Clone, Copy)]
 enum Head {
     Refused(u8),
     Events(usize, usize),

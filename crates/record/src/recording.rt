@@ -9,7 +9,7 @@ use laws::put_bytes;
 use session::session::Session;
 
 // The refusal number, 0 for none, and the length of the record, 0 where it is refused.
-#[derive(Drop)]
+#[derive(Clone, Copy)]
 pub struct Recorded {
     pub refusal: u8,
     pub length: usize,

@@ -1,5 +1,7 @@
 // A record played back, for other programs to read: `replay IMAGE RECORD` prints the last picture and the
 // sheet as raw bytes, or the refusal number in digits, and nothing else. What cannot be read counts as empty.
+#![tactic(auto)]
+
 mod playing;
 
 use cmf::image::Image;

@@ -1,5 +1,7 @@
 // Runs the cases that standard input holds, and prints a line for each: its name and what the calls answer. A
 // program over it has its cases in its `stdin`, and in its `stdout` the lines that the gate compares.
+#![tactic(auto)]
+
 mod marking;
 mod playing;
 mod recording;

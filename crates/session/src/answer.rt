@@ -10,7 +10,7 @@ use field::work::Work;
 
 // The paper's answers. Taken: the event did what it is for. Flash: it can't be done. Finished: a visit of the
 // field at a place was finished. Fired: the trigger at a place was fired. Refused: with the refusal number.
-#[derive(Drop)]
+#[derive(Clone, Copy)]
 pub enum Answer {
     Taken,
     Flash,
@@ -55,7 +55,7 @@ impl Answer {
     }
 }
 
-#[derive(Drop)]
+#[derive(Clone, Copy)]
 pub struct Stepped {
     pub session: Session,
     pub answer: Answer,

@@ -1,4 +1,6 @@
 // The session of a sitting, by value: its tables and cursor lines, and what it is doing.
+#![tactic(auto)]
+
 pub mod answer;
 pub mod browse;
 pub mod fits;

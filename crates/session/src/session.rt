@@ -7,7 +7,7 @@ use field::kind::ImagePlace;
 use field::work::Work;
 
 // A table that is open, with its cursor line and first shown line, from 0.
-#[derive(Drop)]
+#[derive(Clone, Copy)]
 pub struct Level {
     pub table: ImagePlace,
     pub cursor: u8,
@@ -15,7 +15,7 @@ pub struct Level {
 }
 
 // Browsing; in a visit of the component at a place; in the entry of a password with so many digits typed.
-#[derive(Drop)]
+#[derive(Clone, Copy)]
 pub enum Mode {
     Browsing,
     Visit(ImagePlace),
@@ -26,7 +26,7 @@ pub enum Mode {
 // working copy of a visit. typed: the digits typed in a password entry. columns, lines: of the display. idle:
 // the idle count, seconds since the last key that were not in a visit. Wide fields come first: there is no
 // gap before them, and copies stay aligned.
-#[derive(Drop)]
+#[derive(Clone, Copy)]
 pub struct Session {
     pub above: [Level; Session::MAX_ABOVE],
     pub here: Level,

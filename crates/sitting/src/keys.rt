@@ -14,7 +14,7 @@ const NONE: u8 = 255;
 
 const NEWLINE: u8 = b'\n';
 
-#[derive(Drop)]
+#[derive(Clone, Copy)]
 enum Key {
     Byte(u8),
     End,

@@ -1,6 +1,8 @@
 // A whole sitting in one command: `sitting IMAGE [KEYS [RECORD]]` opens an exam paper on a display of 20 x 4
 // and a sheet of zeros, plays the keys of a file or of standard input, and prints pictures, answers and at
 // the end the bytes of each field. A record of the events is written to a third file.
+#![tactic(auto)]
+
 mod fields;
 mod keys;
 mod recorder;

@@ -1,3 +1,5 @@
 // What a component shows, and the cells of a row that it is put into.
+#![tactic(auto)]
+
 pub mod row;
 pub mod text;

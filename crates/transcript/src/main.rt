@@ -1,5 +1,7 @@
 // What was pressed in a sitting, for the candidate to read: `transcript IMAGE RECORD` plays a record on a
 // display of 20 x 4 and a sheet of zeros, and prints each key with its answer; or the refusal.
+#![tactic(auto)]
+
 mod tell;
 
 use cmf::image::Image;
