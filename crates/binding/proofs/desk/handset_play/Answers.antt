@@ -1,0 +1,16 @@
+-- A buffer of another length is refused last and left; else what `play` ensures of the bytes for columns and lines holds of the numbers.
+use native.Mathlib.Omega.{arith}
+use Rattle.binding.proofs.Replays.{unsized, events_small, play_refused, play_told}
+use Rattle.binding.proofs.desk.handset_play.Goals as goal
+
+pub returns-then-session-ne-SIZE : goal.returns-then-session-ne-SIZE
+returns-then-session-ne-SIZE c = unsized _ _ _ _ _ _ c.byte_of-across.ensures c.byte_of-down.ensures _ _ _ c.if-session-ne-SIZE.true _ c.unsized_replay-refusal.ensures
+
+pub returns-then-replayed-ne0 : goal.returns-then-replayed-ne0
+returns-then-replayed-ne0 c = play_refused _ _ _ _ _ _ c.byte_of-across.ensures c.byte_of-down.ensures _ _ _ c.if-session-ne-SIZE.false _ c.play-replayed.ensures.0 _ _ _ c.play-replayed.ensures.1.0 c.play-replayed.ensures.1.1 c.write_session.ensures.0 c.write_session.ensures.1 _ c.if-replayed-ne0.true c.refused_by.ensures
+
+pub overflow_cast-result-2 : goal.overflow_cast-result-2
+overflow_cast-result-2 c = omega (arith, events_small c.args.image.now c.args.sheet.now _ _ _ _ c.byte_of-across.ensures c.byte_of-down.ensures c.args.recorded.now c.args.answers.now c.args.session.now c.if-session-ne-SIZE.false _ c.play-replayed.ensures.0 (λ k. omega (arith, c.type_inv.recorded k)) c.if-replayed-ne0.false)
+
+pub returns : goal.returns
+returns c = play_told _ _ _ _ _ _ c.byte_of-across.ensures c.byte_of-down.ensures _ _ _ c.if-session-ne-SIZE.false _ c.play-replayed.ensures.0 _ _ _ c.play-replayed.ensures.1.0 c.play-replayed.ensures.1.1 c.write_session.ensures.0 c.write_session.ensures.1 c.if-replayed-ne0.false

@@ -1,0 +1,5 @@
+-- What the callees ensure, put together.
+use Rattle.cmf.proofs.component.component_read.Goals as goal
+
+pub returns : goal.returns
+returns c = simp (c.field_by-field.ensures, c.nine_unless.ensures, c.settings_fit.ensures, c.is_editable.ensures, c.is_field.ensures)

@@ -1,0 +1,6 @@
+-- What the callees ensure, put together.
+use Rattle.cmf.proofs.component.option_read.Goals as goal
+
+pub returns : goal.returns
+unfolding if◌then◌else◌
+returns c = simp (c.option_field.ensures, c.nine_unless.ensures, c.option_fits.ensures)

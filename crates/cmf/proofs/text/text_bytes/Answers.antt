@@ -1,0 +1,26 @@
+-- Each return is the case of the definition that the tests on its path choose.
+use native.Mathlib.Omega.{arith}
+use Prim.Native.Nat.{◌+◌, ◌-◌}
+use mathlib.Core.Path.{◌≡◌}
+use lib.ListN.{length}
+use Rattle.cmf.specs.Readers.{text_bytes}
+use Rattle.laws.proofs.Cases.{via}
+use Rattle.laws.proofs.Rooms.{room_le}
+use Rattle.cmf.proofs.text.text_bytes.Goals as goal
+
+pub overflow_add-start : goal.overflow_add-start
+overflow_add-start c = omega (arith, room_le (length c.args.image.now) c.args.at (1 + c.byte_at-n.result) (via c.room-whole.ensures c.if-whole.true))
+
+pub overflow_add-end : goal.overflow_add-end
+overflow_add-end c = omega (arith, room_le (length c.args.image.now) c.args.at (1 + c.byte_at-n.result) (via c.room-whole.ensures c.if-whole.true))
+
+pub slice_bounds-result-end : goal.slice_bounds-result-end
+slice_bounds-result-end c = omega (arith, room_le (length c.args.image.now) c.args.at (1 + c.byte_at-n.result) (via c.room-whole.ensures c.if-whole.true))
+
+pub returns-then-whole : goal.returns-then-whole
+unfolding text_bytes if◌then◌else◌
+returns-then-whole c = let z : c.args.at + 1 + c.byte_at-n.result - (c.args.at + 1) ≡ c.byte_at-n.result = omega arith in simp (← c.byte_at-n.ensures, ← c.room-whole.ensures, c.if-whole.true, z)
+
+pub returns : goal.returns
+unfolding text_bytes if◌then◌else◌
+returns c = simp (← c.byte_at-n.ensures, ← c.room-whole.ensures, c.if-whole.false)

@@ -1,0 +1,16 @@
+-- Each return is the case of the definition that the tests on its path choose.
+use borrow.Author.Tests.{le-leb, lt-leb}
+use Rattle.field.specs.Cells.{within}
+use Rattle.field.proofs.work.Work.also_within.Goals as goal
+
+pub returns-then-c-x : goal.returns-then-c-x
+unfolding within ◌and◌
+returns-then-c-x c = simp (c.if-ok.true, ← c.held_to-c.ensures, ← c.cell-x.ensures.0, le-leb _ _ c.if-c-x.true)
+
+pub returns-then-ok : goal.returns-then-ok
+unfolding within ◌and◌
+returns-then-ok c = simp (c.if-ok.true, ← c.held_to-c.ensures, ← c.cell-x.ensures.0, lt-leb _ _ c.if-c-x.false)
+
+pub returns : goal.returns
+unfolding within ◌and◌
+returns c = simp c.if-ok.false

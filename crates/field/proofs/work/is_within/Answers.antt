@@ -1,0 +1,12 @@
+-- Each return is the case of the definition that the tests on its path choose.
+use borrow.Author.Tests.{le-leb, lt-leb}
+use Rattle.field.specs.Cells.{within}
+use Rattle.field.proofs.work.is_within.Goals as goal
+
+pub returns-then-c-x : goal.returns-then-c-x
+unfolding within ◌and◌
+returns-then-c-x c = simp (le-leb _ _ c.if-c-x.true)
+
+pub returns : goal.returns
+unfolding within ◌and◌
+returns c = simp (lt-leb _ _ c.if-c-x.false)

@@ -1,0 +1,10 @@
+-- Each return is the case of the definition that the tests on its path choose.
+use Rattle.laws.proofs.Cases.{choices}
+use native.Mathlib.Omega.{arith}
+use Rattle.field.proofs.work.third.Goals as goal
+
+pub returns-then-long : goal.returns-then-long
+returns-then-long c = search (choices, arith)
+
+pub returns-else-long : goal.returns-else-long
+returns-else-long c = search (choices, arith)

@@ -1,0 +1,14 @@
+-- By whether the image is refused. The top table has all fields, and the list is zeros before them.
+use mathlib.Core.Path.{refl}
+use Rattle.laws.specs.Overwrite.{fit}
+use Rattle.cmf.specs.Places.{component_places, fields_of}
+use Rattle.handset.proofs.Filling.{none_listed, all_listed}
+use Rattle.handset.proofs.fields.list_fields.Goals as goal
+
+pub returns-then-refusal-ne0 : goal.returns-then-refusal-ne0
+unfolding fit
+returns-then-refusal-ne0 c = none_listed c.args.image.now c.args.extent _ c.refusal_of-refusal.ensures _ refl c.if-refusal-ne0.true
+
+pub returns : goal.returns
+unfolding fields_of component_places fit
+returns c = all_listed c.args.image.now c.args.extent _ c.refusal_of-refusal.ensures _ refl _ c.if-refusal-ne0.false c.take_table-count.ensures

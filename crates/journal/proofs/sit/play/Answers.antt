@@ -1,0 +1,20 @@
+-- The loop's invariant: what is left to play, played from the present state, gives what all events give from the start.
+use mathlib.Core.Path.{refl, ◌∙◌}
+use native.Mathlib.Omega.{arith}
+use Rattle.journal.proofs.Playing.{played_next, played_whole}
+use Rattle.journal.proofs.sit.play.Goals as goal
+
+pub loop-i-init : goal.loop-i-init
+loop-i-init c = (refl, refl)
+
+pub overflow_add-i : goal.overflow_add-i
+overflow_add-i c = omega (arith, c.loop-i-test.true, c.well-formed)
+
+pub loop-i-preserved : goal.loop-i-preserved
+loop-i-preserved c = (c.event-stepped.auto.1.0 ∙ c.loop-i.invariant.0, played_next c.args.image.now c.args.events.now _ _ _ _ _ c.loop-i-test.true c.event-stepped.ensures.0 c.event-stepped.ensures.1.1 ∙ c.loop-i.invariant.1)
+
+pub shape_of-sheet : goal.shape_of-sheet
+shape_of-sheet c = c.loop-i.invariant.0
+
+pub returns : goal.returns
+returns c = played_whole c.args.image.now c.args.events.now _ _ _ _ c.loop-i-test.false c.loop-i.invariant.1

@@ -1,0 +1,7 @@
+-- Open and then the events, put together; the journal's clause is the theorem over lists.
+use Rattle.journal.proofs.Playing.{sat_whole}
+use Rattle.journal.proofs.sit.sit.Goals as goal
+
+pub returns : goal.returns
+returns c = let o = c.«open» in
+    sat_whole c.args.image.now c.args.events.now c.args.sheet.now _ _ _ _ o.ensures.0 o.ensures.1 _ _ c.play.ensures.0 c.play.ensures.1

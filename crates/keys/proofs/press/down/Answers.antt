@@ -1,0 +1,15 @@
+-- Each return is the case of the definition that the tests on its path choose.
+use Rattle.keys.specs.Keys.{down_key}
+use Rattle.keys.proofs.press.down.Goals as goal
+
+pub returns-then-p : goal.returns-then-p
+unfolding down_key if◌then◌else◌
+returns-then-p c = simp c.if-p.true
+
+pub returns-then-p-2 : goal.returns-then-p-2
+unfolding down_key if◌then◌else◌
+returns-then-p-2 c = simp (c.flash.ensures, c.if-p.false, c.if-p-2.true)
+
+pub returns : goal.returns
+unfolding down_key if◌then◌else◌
+returns c = simp (c.lower.ensures, c.if-p.false, c.if-p-2.false)

@@ -1,0 +1,16 @@
+-- Each return is the case of the definition that the tests on its path choose.
+use borrow.Author.Tests.{le-leb, lt-leb}
+use Rattle.keys.specs.Keys.{lowered}
+use Rattle.keys.proofs.press.lower.Goals as goal
+
+pub returns-then-c : goal.returns-then-c
+unfolding lowered if◌then◌else◌
+returns-then-c c = simp (c.taken.ensures, c.with_chosen.ensures, c.if-c.true)
+
+pub returns-then-c-step : goal.returns-then-c-step
+unfolding lowered if◌then◌else◌
+returns-then-c-step c = simp (c.taken-then-c-step.ensures, c.with_chosen-then-c-step.ensures, c.if-c.false, ← c.chosen-x.ensures.0, le-leb _ _ c.if-c-step.true)
+
+pub returns : goal.returns
+unfolding lowered if◌then◌else◌
+returns c = simp (c.flash.ensures, c.if-c.false, ← c.chosen-x.ensures.0, lt-leb _ _ c.if-c-step.false)

@@ -1,0 +1,15 @@
+-- Each return is the case of the definition that the tests on its path choose.
+use Rattle.keys.specs.Keys.{up_key}
+use Rattle.keys.proofs.press.up.Goals as goal
+
+pub returns-then-p : goal.returns-then-p
+unfolding up_key if◌then◌else◌
+returns-then-p c = simp c.if-p.true
+
+pub returns-then-p-2 : goal.returns-then-p-2
+unfolding up_key if◌then◌else◌
+returns-then-p-2 c = simp (c.flash.ensures, c.if-p.false, c.if-p-2.true)
+
+pub returns : goal.returns
+unfolding up_key if◌then◌else◌
+returns c = simp (c.raise.ensures, c.if-p.false, c.if-p-2.false)

@@ -1,0 +1,20 @@
+-- Each return is the case of the definition that the tests on its path choose.
+use native.Mathlib.Omega.{arith}
+use mathlib.Core.Path.{◌≡◌, refl, sym}
+use mathlib.Core.Bool.{true}
+use Rattle.session.specs.Fits.{digits_to}
+use Rattle.session.proofs.Stepping.{digits_next, digits_bad}
+use Rattle.session.proofs.fits.digits_to.Goals as goal
+
+pub loop-i-init : goal.loop-i-init
+unfolding digits_to
+loop-i-init c = (refl, omega arith)
+
+pub returns-then-byte_at-gt-LAST_DIGIT : goal.returns-then-byte_at-gt-LAST_DIGIT
+returns-then-byte_at-gt-LAST_DIGIT c = sym (digits_bad c.args.t1 c.loop-i.i c.args.n c.loop-i-test.true (omega (arith, c.byte_at.ensures, c.if-byte_at-gt-LAST_DIGIT.true)))
+
+pub loop-i-preserved : goal.loop-i-preserved
+loop-i-preserved c = (digits_next c.args.t1 c.loop-i.i c.loop-i.invariant.0 (omega (arith, c.byte_at.ensures, c.if-byte_at-gt-LAST_DIGIT.false)), omega arith)
+
+pub returns : goal.returns
+returns c = let z : c.loop-i.i ≡ c.args.n = omega arith in rw (← z) (sym c.loop-i.invariant.0)
