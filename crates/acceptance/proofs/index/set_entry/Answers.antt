@@ -1,4 +1,5 @@
 -- Each return is the case of the definition that the tests on its path choose.
+use Rattle.laws.specs.Choice.{if◌then◌else◌}
 use borrow.Author.Tests.{ltb-true}
 use Rattle.laws.proofs.Cases.{via}
 use Rattle.acceptance.specs.Index.{with_entry}

@@ -1,4 +1,5 @@
 -- Each return is the case of the definition that the tests on its path choose.
+use Rattle.laws.specs.Choice.{◌and◌}
 use borrow.Author.Tests.{eq-eqb, ne_eqb}
 use Rattle.acceptance.proofs.shared.has_pair.Goals as goal
 

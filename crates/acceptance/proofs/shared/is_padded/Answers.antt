@@ -1,6 +1,7 @@
 -- Each return is the case of the definition that the tests on its path choose.
 use Rattle.laws.proofs.Cases.{choices}
 use native.Mathlib.Omega.{arith}
+use Rattle.laws.specs.Choice.{if◌then◌else◌}
 use borrow.Author.Tests.{ne_eqb}
 use Rattle.acceptance.specs.Check.{padded}
 use Rattle.acceptance.proofs.shared.is_padded.Goals as goal

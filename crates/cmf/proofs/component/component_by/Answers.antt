@@ -3,6 +3,7 @@ use mathlib.Core.Path.{◌∙◌, sym}
 use native.Mathlib.Omega.{arith}
 use lib.ListN.{length}
 use borrow.Author.Tests.{lt-ltb, le-ltb}
+use Rattle.laws.specs.Choice.{if◌then◌else◌}
 use Rattle.laws.proofs.Cases.{via}
 use Rattle.laws.proofs.Rooms.{room_le}
 use Rattle.cmf.specs.Readers.{component_by}

@@ -1,5 +1,6 @@
 -- Each return is the row of its code.
 use mathlib.Core.Path.{◌∙◌}
+use Rattle.laws.specs.Choice.{if◌then◌else◌}
 use borrow.Author.Tests.{lt-leb, ne_eqb}
 use Rattle.laws.proofs.Cases.{tests}
 use Rattle.field.specs.Profiles.{profile_of}

@@ -1,4 +1,5 @@
 -- Each return is the case of the definition that the tests on its path choose.
+use Rattle.laws.specs.Choice.{if◌then◌else◌}
 use Rattle.cmf.specs.Readers.{laid_out}
 use Rattle.cmf.proofs.component.laid_out.Goals as goal
 

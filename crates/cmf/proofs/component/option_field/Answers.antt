@@ -1,4 +1,5 @@
 -- An option by its rows of the tables: one byte, after its three settings.
+use Rattle.laws.specs.Choice.{if◌then◌else◌}
 use Rattle.cmf.specs.Readers.{kind_at, sheet_place_at, default_place}
 use Rattle.field.specs.Profiles.{profile_of}
 use Rattle.cmf.proofs.component.option_field.Goals as goal

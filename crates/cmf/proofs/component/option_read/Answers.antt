@@ -1,4 +1,5 @@
 -- What the callees ensure, put together.
+use Rattle.laws.specs.Choice.{if◌then◌else◌}
 use Rattle.cmf.proofs.component.option_read.Goals as goal
 
 pub returns : goal.returns

@@ -2,6 +2,7 @@
 use mathlib.Core.Path.{◌∙◌, refl}
 use native.Mathlib.Omega.{arith}
 use borrow.Author.Tests.{le-ltb}
+use Rattle.laws.specs.Choice.{if◌then◌else◌}
 use Rattle.cmf.specs.Readers.{component_at}
 use Rattle.cmf.proofs.Shortcuts.{component_here}
 use Rattle.cmf.proofs.component.read_component.Goals as goal

@@ -1,4 +1,5 @@
 -- Each return is the case of the definition that the tests on its path choose.
+use Rattle.laws.specs.Choice.{if◌then◌else◌}
 use borrow.Author.Tests.{lt-ltb, le-ltb}
 use Rattle.cmf.specs.Readers.{sheet_place_at}
 use Rattle.cmf.proofs.component.sheet_place.Goals as goal

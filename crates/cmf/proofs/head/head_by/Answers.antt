@@ -4,6 +4,7 @@ use mathlib.Core.Path.{◌≡◌}
 use Rattle.cmf.specs.Readers.{texts_from, passwords, options_end, head_by}
 use Rattle.cmf.proofs.Turning.{texts_inside, bits_le, head_whole}
 use native.Mathlib.Omega.{arith}
+use Rattle.laws.specs.Choice.{if◌then◌else◌}
 use borrow.Author.Tests.{le-leb, lt-leb}
 use Rattle.cmf.proofs.head.head_by.Goals as goal
 

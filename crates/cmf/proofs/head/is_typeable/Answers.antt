@@ -1,4 +1,5 @@
 -- Each return is the case of the definition that the tests on its path choose.
+use Rattle.laws.specs.Choice.{if◌then◌else◌}
 use Rattle.cmf.proofs.head.is_typeable.Goals as goal
 
 pub returns-then-protected : goal.returns-then-protected

@@ -4,6 +4,7 @@ use Prim.Native.Nat.{◌+◌}
 use mathlib.Core.Path.{◌≡◌}
 use native.Mathlib.Omega.{arith}
 use native.Mathlib.Nat.{div-one}
+use Rattle.laws.specs.Choice.{if◌then◌else◌}
 use Rattle.cmf.proofs.Turning.{no_password}
 use Rattle.cmf.proofs.head.short_head.Goals as goal
 

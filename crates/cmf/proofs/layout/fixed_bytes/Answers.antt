@@ -3,6 +3,7 @@ use Rattle.laws.proofs.Cases.{tests}
 use borrow.Author.Tests.{lt-leb, ne_eqb}
 use native.Mathlib.Omega.{arith}
 use Rattle.laws.proofs.Cases.{choices}
+use Rattle.laws.specs.Choice.{if◌then◌else◌}
 use Rattle.cmf.specs.Readers.{fixed_bytes}
 use Rattle.cmf.proofs.layout.fixed_bytes.Goals as goal
 

@@ -1,6 +1,7 @@
 -- Each return is the case of the definition that the tests on its path choose.
 use Rattle.laws.proofs.Cases.{tests, choices}
 use native.Mathlib.Omega.{arith}
+use Rattle.laws.specs.Choice.{if◌then◌else◌}
 use borrow.Author.Tests.{le-ltb, lt-leb, ne_eqb}
 use Rattle.cmf.specs.Readers.{given}
 use Rattle.cmf.proofs.layout.is_given.Goals as goal

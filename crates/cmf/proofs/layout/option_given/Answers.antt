@@ -1,4 +1,5 @@
 -- Each return is the case of the definition that the tests on its path choose.
+use Rattle.laws.specs.Choice.{if◌then◌else◌, ◌and◌}
 use borrow.Author.Tests.{eq-eqb, ne_eqb}
 use Rattle.cmf.specs.Readers.{given}
 use Rattle.cmf.proofs.layout.option_given.Goals as goal

@@ -1,4 +1,5 @@
 -- Each return is the case of the definition that the tests on its path choose.
+use Rattle.laws.specs.Choice.{if◌then◌else◌}
 use borrow.Author.Tests.{le-ltb, le-leb}
 use Rattle.laws.proofs.Cases.{choices}
 use native.Mathlib.Omega.{arith}

@@ -1,4 +1,5 @@
 -- Each return is the case of the definition that the tests on its path choose.
+use Rattle.laws.specs.Choice.{◌and◌}
 use borrow.Author.Tests.{le-leb, lt-leb}
 use Rattle.cmf.specs.Readers.{password_fits}
 use Rattle.laws.proofs.Lists.{byte_past}

@@ -1,4 +1,5 @@
 -- Each return is the case of the definition that the tests on its path choose.
+use Rattle.laws.specs.Choice.{if◌then◌else◌}
 use Rattle.cmf.specs.Readers.{title_at, title_by}
 use Rattle.cmf.proofs.title.read_title.Goals as goal
 

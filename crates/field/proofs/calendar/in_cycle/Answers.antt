@@ -16,7 +16,7 @@ loop-turns-init c = (refl, omega arith, refl)
 
 pub loop-turns-preserved : goal.loop-turns-preserved
 loop-turns-preserved c = let h = halved c.loop-turns.turns (omega arith) in
-    ⊎_elim (λ w. (omega arith, omega arith, omega arith)) (λ w. (omega arith, omega arith, omega arith)) c.if-span-rest.branch
+    ⊎_elim (λ w. (omega arith, omega arith, omega arith)) (λ w. (omega arith, omega arith, omega arith)) c.if-span-rest.branch-raw
 
 pub returns : goal.returns
 returns c = let z : c.loop-turns.turns ≡ 0 = omega arith in omega (arith, rw z at c.loop-turns.invariant)

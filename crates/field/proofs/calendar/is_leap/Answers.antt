@@ -17,4 +17,4 @@ pub returns-in-300 : goal.returns-in-300
 returns-in-300 c = leap_not_hundred _ (omega (arith, c.in_cycle.ensures, c.in-300.is)) (λ e. omega (arith, c.in_cycle.ensures, c.in-300.is))
 
 pub returns-in_default : goal.returns-in_default
-returns-in_default c = leap_other _ c.if-year-ne0.false (λ e. c.in_default.rest.0.0.1 (c.in_cycle.ensures ∙ e)) (λ e. c.in_default.rest.0.1 (c.in_cycle.ensures ∙ e)) (λ e. c.in_default.rest.1 (c.in_cycle.ensures ∙ e))
+returns-in_default c = leap_other _ c.if-year-ne0.false (λ e. c.in_default.in_default-own.rest.0.0.1 (c.in_cycle.ensures ∙ e)) (λ e. c.in_default.in_default-own.rest.0.1 (c.in_cycle.ensures ∙ e)) (λ e. c.in_default.in_default-own.rest.1 (c.in_cycle.ensures ∙ e))

@@ -1,4 +1,5 @@
 -- Each return is the case of the definition that the month chooses.
+use Rattle.laws.specs.Choice.{if◌then◌else◌}
 use borrow.Author.Tests.{ne_eqb}
 use Rattle.field.specs.Calendar.{month_end}
 use Rattle.field.proofs.calendar.month_end.Goals as goal
@@ -29,4 +30,4 @@ returns-in-11 c = simp c.in-11.is
 
 pub returns-in_default : goal.returns-in_default
 unfolding month_end if◌then◌else◌
-returns-in_default c = simp (ne_eqb _ _ c.in_default.rest.0.0.0.0.1, ne_eqb _ _ c.in_default.rest.0.0.0.1, ne_eqb _ _ c.in_default.rest.0.0.1, ne_eqb _ _ c.in_default.rest.0.1, ne_eqb _ _ c.in_default.rest.1)
+returns-in_default c = simp (ne_eqb _ _ c.in_default.in_default-own.rest.0.0.0.0.1, ne_eqb _ _ c.in_default.in_default-own.rest.0.0.0.1, ne_eqb _ _ c.in_default.in_default-own.rest.0.0.1, ne_eqb _ _ c.in_default.in_default-own.rest.0.1, ne_eqb _ _ c.in_default.in_default-own.rest.1)

@@ -21,14 +21,14 @@ overflow_mul-n c = let l = c.loop-i in
 
 pub overflow_add-n : goal.overflow_add-n
 overflow_add-n c = let l = c.loop-i in
-    let d : Fits w32 (get_or c.args.t1.cells (c.args.start + l.i) 0) = search rules in
-    omega (arith, turn_fits l.n c.args.base (get_or c.args.t1.cells (c.args.start + l.i) 0) l.i c.args.count l.invariant.1 c.requires.0 c.loop-i-test.true c.requires.2 d.fits)
+    let d : Fits w32 (get_or c.args.w.cells (c.args.start + l.i) 0) = search rules in
+    omega (arith, turn_fits l.n c.args.base (get_or c.args.w.cells (c.args.start + l.i) 0) l.i c.args.count l.invariant.1 c.requires.0 c.loop-i-test.true c.requires.2 d.fits)
 
 pub loop-i-preserved : goal.loop-i-preserved
 loop-i-preserved c = let l = c.loop-i in
-    let d : Fits w32 (get_or c.args.t1.cells (c.args.start + l.i) 0) = search rules in (
-      rw l.invariant.0 (number_turn _ c.args.start l.i c.args.t1.cells (omega arith)),
-      number_bound l.n c.args.base (get_or c.args.t1.cells (c.args.start + l.i) 0) l.i l.invariant.1 c.requires.0 d.fits,
+    let d : Fits w32 (get_or c.args.w.cells (c.args.start + l.i) 0) = search rules in (
+      rw l.invariant.0 (number_turn _ c.args.start l.i c.args.w.cells (omega arith)),
+      number_bound l.n c.args.base (get_or c.args.w.cells (c.args.start + l.i) 0) l.i l.invariant.1 c.requires.0 d.fits,
       omega arith,
       l.invariant.3,
     )

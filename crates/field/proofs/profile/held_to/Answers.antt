@@ -1,4 +1,5 @@
 -- Each return is the case of the definition that the test chooses.
+use Rattle.laws.specs.Choice.{if◌then◌else◌}
 use Rattle.field.specs.Profiles.{held_to}
 use Rattle.field.proofs.profile.held_to.Goals as goal
 

@@ -1,5 +1,6 @@
 -- Each kind is the case that the definition has for it, a date by its tests.
 use borrow.Author.Tests.{ne_eqb}
+use Rattle.laws.specs.Choice.{◌and◌}
 use Rattle.field.specs.Profiles.{open_day}
 use Rattle.field.proofs.profile.is_open_day.Goals as goal
 

@@ -1,4 +1,5 @@
 -- Each return is the case of the definition that the tests on its path choose.
+use Rattle.laws.specs.Choice.{◌and◌}
 use Rattle.field.specs.Settings.{settings_fit}
 use Rattle.field.proofs.settings.settings_fit.Goals as goal
 

@@ -1,4 +1,5 @@
 -- Each return is the case of the definition that the tests on its path choose; a short year needs no 2000 added (proofs/Calendars).
+use Rattle.laws.specs.Choice.{◌and◌}
 use Rattle.laws.proofs.Cases.{via}
 use Rattle.field.proofs.Calendars.{end_full}
 use Rattle.field.proofs.work.is_date.Goals as goal

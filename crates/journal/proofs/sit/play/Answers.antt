@@ -8,7 +8,7 @@ pub loop-i-init : goal.loop-i-init
 loop-i-init c = (refl, refl)
 
 pub overflow_add-i : goal.overflow_add-i
-overflow_add-i c = omega (arith, c.loop-i-test.true, c.well-formed)
+overflow_add-i c = omega (arith, c.loop-i-test.true, c.well_formed)
 
 pub loop-i-preserved : goal.loop-i-preserved
 loop-i-preserved c = (c.event-stepped.auto.1.0 ∙ c.loop-i.invariant.0, played_next c.args.image.now c.args.events.now _ _ _ _ _ c.loop-i-test.true c.event-stepped.ensures.0 c.event-stepped.ensures.1.1 ∙ c.loop-i.invariant.1)

@@ -2,6 +2,7 @@
 use native.Mathlib.Omega.{arith}
 use mir.Val.{Fits}
 use mir.Syntax.{w8}
+use Rattle.laws.specs.Choice.{if◌then◌else◌}
 use Rattle.laws.proofs.Cases.{via}
 use Rattle.keys.specs.Keys.{enter_key}
 use Rattle.keys.proofs.Parts.{part_next}

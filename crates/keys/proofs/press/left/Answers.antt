@@ -1,6 +1,7 @@
 -- Each return is the case of the definition that the tests on its path choose.
 use Rattle.laws.proofs.Cases.{choices}
 use native.Mathlib.Omega.{arith}
+use Rattle.laws.specs.Choice.{if◌then◌else◌}
 use borrow.Author.Tests.{lt-ltb, le-ltb}
 use Rattle.keys.specs.Keys.{left_key}
 use Rattle.keys.proofs.press.left.Goals as goal

@@ -1,4 +1,5 @@
 -- Each return is the case of the definition that the tests on its path choose.
+use Rattle.laws.specs.Choice.{if◌then◌else◌}
 use borrow.Author.Tests.{le-leb, lt-leb}
 use Rattle.keys.specs.Keys.{raised}
 use Rattle.keys.proofs.press.raise.Goals as goal

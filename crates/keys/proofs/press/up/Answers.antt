@@ -1,4 +1,5 @@
 -- Each return is the case of the definition that the tests on its path choose.
+use Rattle.laws.specs.Choice.{if◌then◌else◌}
 use Rattle.keys.specs.Keys.{up_key}
 use Rattle.keys.proofs.press.up.Goals as goal
 

@@ -8,6 +8,6 @@ use borrow.Author.Rules.{rules}
 use Rattle.keys.proofs.press.with_chosen.Goals as goal
 
 pub returns-else-at-lt-CELLS : goal.returns-else-at-lt-CELLS
-returns-else-at-lt-CELLS c = let l : length c.args.t1.cells ≡ 32 = search rules in
-    let h : length c.args.t1.cells ≤ c.args.t1.at = omega arith in
-    rw (set_out c.args.t1.cells c.args.t1.at c.args.x h)
+returns-else-at-lt-CELLS c = let l : length c.args.w.cells ≡ 32 = search rules in
+    let h : length c.args.w.cells ≤ c.args.w.at = omega arith in
+    rw (set_out c.args.w.cells c.args.w.at c.args.x h)

@@ -27,7 +27,7 @@ pub overflow_add-i : goal.overflow_add-i
 overflow_add-i c = let a = c.args in
     let l = c.loop-there in
     let more = ltb-true l.i (length a.key.now / 3) (sym l.invariant.1.1.1.1 ∙ c.loop-there-test.true) in
-    omega (arith, more, c.well-formed.1.1.0)
+    omega (arith, more, c.well_formed.1.1.0)
 
 pub loop-there-smaller : goal.loop-there-smaller
 loop-there-smaller c = let a = c.args in

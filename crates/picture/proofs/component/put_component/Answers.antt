@@ -9,4 +9,4 @@ pub returns-then-c : goal.returns-then-c
 returns-then-c c = shown_field _ _ c.args.session _ c.args.c _ c.if-c.true c.visits-open.ensures c.if-open.false c.put_field.ensures
 
 pub returns : goal.returns
-returns c = shown_string _ _ c.args.session _ c.args.c _ c.if-c.false c.string_bytes.ensures c.put_all_lem.ensures
+returns c = shown_string _ _ c.args.session _ c.args.c _ c.if-c.false c.string_bytes.ensures c.put_all.ensures

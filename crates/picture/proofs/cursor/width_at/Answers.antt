@@ -9,7 +9,7 @@ use Rattle.picture.proofs.cursor.width_at.Goals as goal
 
 pub returns-then-c : goal.returns-then-c
 unfolding width_at
-returns-then-c c = c.width_of_lem.ensures ∙ sym (if_true _ _ c.if-c.true)
+returns-then-c c = c.width_of.ensures ∙ sym (if_true _ _ c.if-c.true)
 
 pub returns : goal.returns
 unfolding width_at

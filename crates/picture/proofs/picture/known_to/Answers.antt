@@ -9,4 +9,4 @@ pub returns-in-At : goal.returns-in-At
 returns-in-At c = let f = found_at _ c.reach-line.ensures c.in-At.is in (omega (arith, ltb-true c.args.k (line_count c.args.image.now c.args.table) f.0), f.1)
 
 pub returns-in-Nothing : goal.returns-in-Nothing
-returns-in-Nothing c = (omega (arith, c.line_count.ensures, ltb-false c.args.k (line_count c.args.image.now c.args.table) (found_none _ c.reach-line.ensures c.in-Nothing.is)), c.line_at_lem.ensures)
+returns-in-Nothing c = (omega (arith, c.line_count.ensures, ltb-false c.args.k (line_count c.args.image.now c.args.table) (found_none _ c.reach-line.ensures c.in-Nothing.is)), c.line_at.ensures)

@@ -15,7 +15,7 @@ pub loop-left-init : goal.loop-left-init
 loop-left-init c = (refl, rows_sum _ _ c.requires.1 ∙ sym c.requires.2, omega arith, refl, c.known_to-top.ensures.1, c.known_to-top.ensures.0, λ a b. absurd (omega arith), refl, λ n. absurd (n refl))
 
 pub overflow_add-end : goal.overflow_add-end
-overflow_add-end c = omega (arith, rows_less c.args.session.columns c.loop-left.left c.loop-left.at _ c.loop-left-test.true c.loop-left.invariant.1, c.requires.2, area c.args.session.columns c.args.session.lines (omega (arith, columns_byte c.args.session _ c.well-formed.1.1.0)) (omega (arith, lines_byte c.args.session _ c.well-formed.1.1.0)))
+overflow_add-end c = omega (arith, rows_less c.args.session.columns c.loop-left.left c.loop-left.at _ c.loop-left-test.true c.loop-left.invariant.1, c.requires.2, area c.args.session.columns c.args.session.lines (omega (arith, columns_byte c.args.session _ c.well_formed.1.1.0)) (omega (arith, lines_byte c.args.session _ c.well_formed.1.1.0)))
 
 pub slice_bounds-put_row-count : goal.slice_bounds-put_row-count
 slice_bounds-put_row-count c = omega (arith, rows_less c.args.session.columns c.loop-left.left c.loop-left.at _ c.loop-left-test.true c.loop-left.invariant.1, c.loop-left.invariant.0)
@@ -27,7 +27,7 @@ pub slice_bounds-put_row-end : goal.slice_bounds-put_row-end
 slice_bounds-put_row-end c = omega (arith, rows_less c.args.session.columns c.loop-left.left c.loop-left.at _ c.loop-left-test.true c.loop-left.invariant.1, c.loop-left.invariant.0)
 
 pub slice_bounds-put_row-end-in-loop-left : goal.slice_bounds-put_row-end-in-loop-left
-slice_bounds-put_row-end-in-loop-left c = sym (work_length c.args.session _ c.well-formed.1.1.0)
+slice_bounds-put_row-end-in-loop-left c = sym (work_length c.args.session _ c.well_formed.1.1.0)
 
 pub put_row-mark-requires : goal.put_row-mark-requires
 put_row-mark-requires c = (c.requires.0, lent_length c.loop-left.picture c.loop-left.at _ (omega (arith, rows_less c.args.session.columns c.loop-left.left c.loop-left.at _ c.loop-left-test.true c.loop-left.invariant.1, c.loop-left.invariant.0)), refl, c.read_head-h.ensures)

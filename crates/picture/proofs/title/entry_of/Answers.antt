@@ -1,4 +1,5 @@
 -- Each mode has its row.
+use Rattle.laws.specs.Choice.{if◌then◌else◌}
 use Rattle.picture.specs.Rows.{top_row_in}
 use Rattle.picture.proofs.title.entry_of.Goals as goal
 

@@ -1,5 +1,6 @@
 -- The padding before it, and the component.
 use mathlib.Core.Path.{refl}
+use mathlib.Core.List.{[]}
 use borrow.Author.Tests.{not-false, ltb-true}
 use Rattle.laws.proofs.Cases.{via}
 use Rattle.quick.specs.Accept.{Claims}

@@ -1,4 +1,5 @@
 -- A counter is in range by its one cell.
+use Rattle.laws.specs.Choice.{◌and◌}
 use Rattle.field.specs.Cells.{within}
 use Rattle.field.proofs.Ranges.{range_of_counter}
 use borrow.Author.Tests.{le-leb, lt-leb}

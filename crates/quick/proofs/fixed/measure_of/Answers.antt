@@ -2,6 +2,7 @@
 use mathlib.Core.Path.{refl}
 use Rattle.quick.proofs.FixedFields.{held}
 use Rattle.cmf.proofs.Shortcuts.{short_bytes, long_bytes}
+use Rattle.laws.specs.Choice.{if◌then◌else◌}
 use Rattle.field.specs.Profiles.{profile_of}
 use native.Mathlib.Omega.{arith}
 use Rattle.quick.proofs.fixed.measure_of.Goals as goal

@@ -1,4 +1,5 @@
 -- Each return is the case of the definition that the tests on its path choose.
+use Rattle.laws.specs.Choice.{◌and◌}
 use Rattle.field.specs.Settings.{width_fits}
 use borrow.Author.Tests.{le-leb, lt-leb}
 use Rattle.quick.proofs.fixed.width_fits.Goals as goal

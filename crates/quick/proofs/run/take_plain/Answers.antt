@@ -1,6 +1,7 @@
 -- A string needs no mark, an option is taken with its byte.
 use Prim.Native.Nat.{◌+◌}
 use mathlib.Core.Path.{refl}
+use mathlib.Core.List.{[]}
 use borrow.Author.Tests.{leb-true}
 use Rattle.quick.specs.Accept.{Claims}
 use Rattle.acceptance.proofs.CameTo.{clash}

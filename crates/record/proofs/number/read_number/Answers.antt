@@ -1,4 +1,5 @@
 -- Each return is the case of the definition that the tests on its path choose; the last is eight tests deep and is given them.
+use Rattle.laws.specs.Choice.{if◌then◌else◌}
 use Prim.Native.Nat.{◌+◌}
 use borrow.Author.Tests.{le-ltb, lt-leb, ne_eqb}
 use native.Mathlib.Omega.{arith}

@@ -1,4 +1,5 @@
 -- A conjunction by its first part.
+use Rattle.laws.specs.Choice.{◌and◌}
 use Rattle.record.proofs.reading.still.Goals as goal
 
 pub returns-then-known : goal.returns-then-known

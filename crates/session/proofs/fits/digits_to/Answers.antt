@@ -11,10 +11,10 @@ unfolding digits_to
 loop-i-init c = (refl, omega arith)
 
 pub returns-then-byte_at-gt-LAST_DIGIT : goal.returns-then-byte_at-gt-LAST_DIGIT
-returns-then-byte_at-gt-LAST_DIGIT c = sym (digits_bad c.args.t1 c.loop-i.i c.args.n c.loop-i-test.true (omega (arith, c.byte_at.ensures, c.if-byte_at-gt-LAST_DIGIT.true)))
+returns-then-byte_at-gt-LAST_DIGIT c = sym (digits_bad c.args.typed c.loop-i.i c.args.n c.loop-i-test.true (omega (arith, c.byte_at.ensures, c.if-byte_at-gt-LAST_DIGIT.true)))
 
 pub loop-i-preserved : goal.loop-i-preserved
-loop-i-preserved c = (digits_next c.args.t1 c.loop-i.i c.loop-i.invariant.0 (omega (arith, c.byte_at.ensures, c.if-byte_at-gt-LAST_DIGIT.false)), omega arith)
+loop-i-preserved c = (digits_next c.args.typed c.loop-i.i c.loop-i.invariant.0 (omega (arith, c.byte_at.ensures, c.if-byte_at-gt-LAST_DIGIT.false)), omega arith)
 
 pub returns : goal.returns
 returns c = let z : c.loop-i.i ≡ c.args.n = omega arith in rw (← z) (sym c.loop-i.invariant.0)

@@ -1,4 +1,5 @@
 -- Each return is the case of the definition that the tests on its path choose.
+use Rattle.laws.specs.Choice.{◌and◌}
 use borrow.Author.Tests.{le-leb, lt-leb}
 use Rattle.session.specs.Fits.{shape_fits}
 use Rattle.session.proofs.fits.shape_fits.Goals as goal

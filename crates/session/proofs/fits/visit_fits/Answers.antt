@@ -1,4 +1,5 @@
 -- Each return is the case of the definition that the tests on its path choose.
+use Rattle.laws.specs.Choice.{◌and◌}
 use borrow.Author.Tests.{not-true, not-false}
 use Rattle.laws.proofs.Cases.{via}
 use Rattle.session.specs.Fits.{visit_fits}

@@ -1,4 +1,5 @@
 -- Each return is the case of the definition that the tests on its path choose.
+use Rattle.laws.specs.Choice.{if◌then◌else◌, ◌and◌}
 use borrow.Author.Tests.{lt-ltb, le-ltb}
 use Rattle.session.specs.Fits.{work_fits}
 use Rattle.session.proofs.fits.work_fits.Goals as goal

@@ -1,6 +1,7 @@
 -- Each arm is the case of the definition that its number chooses.
 use mathlib.Core.Path.{◌∙◌}
 use native.Mathlib.Omega.{arith}
+use Rattle.laws.specs.Choice.{if◌then◌else◌}
 use Rattle.session.specs.Visits.{pressed}
 use Rattle.session.proofs.Visiting.{press_digit, press_other}
 use Rattle.session.proofs.visit.press.Goals as goal

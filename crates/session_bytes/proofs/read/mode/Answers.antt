@@ -9,4 +9,4 @@ pub returns-in-2 : goal.returns-in-2
 returns-in-2 c = mode_password _ _ _ _ c.byte_at.ensures c.place_at-of.ensures c.in-2.is
 
 pub returns-in_default : goal.returns-in_default
-returns-in_default c = mode_other _ _ _ _ c.byte_at.ensures c.place_at-of.ensures c.in_default.rest.0.1 c.in_default.rest.1
+returns-in_default c = mode_other _ _ _ _ c.byte_at.ensures c.place_at-of.ensures c.in_default.in_default-own.rest.0.1 c.in_default.in_default-own.rest.1

@@ -1,5 +1,5 @@
 -- The three pieces, one after the other.
-use mathlib.Core.List.{◌∷◌}
+use mathlib.Core.List.{[], ◌∷◌}
 use native.Mathlib.Omega.{arith}
 use Prim.Native.Nat.{◌+◌}
 use Rattle.laws.specs.Digits.{low_first}

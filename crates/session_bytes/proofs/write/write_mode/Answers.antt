@@ -1,5 +1,5 @@
 -- Each mode has its number, and its value is after it.
-use mathlib.Core.List.{◌∷◌}
+use mathlib.Core.List.{[], ◌∷◌}
 use mathlib.Core.Path.{refl}
 use Rattle.laws.specs.Digits.{low_first}
 use Rattle.session_bytes.specs.Layout.{mode_bytes}

@@ -1,5 +1,5 @@
 -- The three bytes, one after the other.
-use mathlib.Core.List.{◌∷◌}
+use mathlib.Core.List.{[], ◌∷◌}
 use mathlib.Core.Path.{refl}
 use Rattle.session_bytes.proofs.Layouts.{joined}
 use Rattle.session_bytes.proofs.write.write_shape.Goals as goal

@@ -7,4 +7,4 @@ pub returns-then-fits : goal.returns-then-fits
 returns-then-fits c = field_in _ _ _ c.args.field _ _ _ (number_is _ c.args.field _ _ _ c.profile_of.ensures c.load.ensures c.number-x.ensures) c.in_range-fits.ensures c.if-fits.true refl c.put_number.ensures
 
 pub returns : goal.returns
-returns c = field_out _ _ _ c.args.field _ _ _ (number_is _ c.args.field _ _ _ c.profile_of.ensures c.load.ensures c.number-x.ensures) c.in_range-fits.ensures c.if-fits.false c.width_of_lem.ensures c.repeat.ensures
+returns c = field_out _ _ _ c.args.field _ _ _ (number_is _ c.args.field _ _ _ c.profile_of.ensures c.load.ensures c.number-x.ensures) c.in_range-fits.ensures c.if-fits.false c.width_of.ensures c.repeat.ensures

@@ -1,4 +1,5 @@
 -- Each kind has its case.
+use Rattle.laws.specs.Choice.{if◌then◌else◌}
 use Rattle.field.specs.Profiles.{profile_of}
 use Rattle.texts.specs.Texts.{width_of}
 use Rattle.texts.proofs.text.width_of.Goals as goal

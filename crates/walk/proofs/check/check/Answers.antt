@@ -1,5 +1,6 @@
 -- Each return is the case of the definition that the tests on its path choose.
 use mathlib.Core.Path.{refl}
+use Rattle.laws.specs.Choice.{if◌then◌else◌}
 use borrow.Author.Tests.{eq-eqb, ne_eqb}
 use Rattle.acceptance.specs.Check.{checked, walked}
 use Rattle.laws.specs.Overwrite.{fit}

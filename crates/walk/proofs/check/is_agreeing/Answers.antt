@@ -6,6 +6,7 @@ use native.Mathlib.Omega.{arith}
 use Rattle.cmf.specs.Readers.{back_at}
 use Rattle.acceptance.specs.Check.{agrees}
 use borrow.Author.Tests.{ne_eqb}
+use Rattle.laws.specs.Choice.{if◌then◌else◌}
 use Rattle.walk.proofs.check.is_agreeing.Goals as goal
 
 pub returns-then-n-eq0 : goal.returns-then-n-eq0

@@ -3,7 +3,7 @@ use Prim.Native.Nat.{ℕ, ◌≤◌, ◌<◌}
 use mathlib.Core.Path.{◌≡◌}
 use mathlib.Core.Bool.{Bool, true, false, not}
 use native.Mathlib.Omega.{arith}
-use Rattle.laws.specs.Choice.{◌<?◌}
+use Rattle.laws.specs.Choice.{if◌then◌else◌, ◌<?◌}
 use borrow.Author.Tests.{ltb-true, ltb-false, le-leb, lt-leb, eq-eqb, ne_eqb, not-true, not-false}
 use Rattle.acceptance.specs.Check.{take_field}
 use Rattle.acceptance.specs.Index.{capacity}

@@ -1,4 +1,5 @@
 -- Each return is the case of the definition that the tests on its path choose.
+use Rattle.laws.specs.Choice.{if◌then◌else◌}
 use borrow.Author.Tests.{eq-eqb, ne_eqb}
 use Rattle.acceptance.specs.Check.{apart}
 use Rattle.acceptance.proofs.index.Entry.apart.Goals as goal

@@ -1,4 +1,5 @@
 -- Each return is the case of the definition that the tests on its path choose.
+use Rattle.laws.specs.Choice.{if◌then◌else◌, ◌and◌}
 use borrow.Author.Tests.{le-leb, lt-leb}
 use Rattle.acceptance.specs.Check.{in_sheet}
 use Rattle.laws.specs.Bytes.{room}

@@ -1,4 +1,5 @@
 -- At a trigger's code the definition comes to a trigger without a place.
+use Rattle.laws.specs.Choice.{if◌then◌else◌}
 use Rattle.cmf.specs.Readers.{kind_at, sheet_place_at}
 use Rattle.field.specs.Profiles.{profile_of}
 use Rattle.cmf.proofs.component.Component.refused.Goals as goal

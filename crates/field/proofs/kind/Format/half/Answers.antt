@@ -1,4 +1,5 @@
 -- Each return is the case of the definition that the tests on its path choose.
+use Rattle.laws.specs.Choice.{if◌then◌else◌}
 use Rattle.field.specs.Formats.{half_of}
 use Rattle.field.proofs.kind.Format.half.Goals as goal
 

@@ -1,4 +1,5 @@
 -- Each return is the case of the definition that the tests on its path choose.
+use Rattle.laws.specs.Choice.{if◌then◌else◌}
 use native.Mathlib.Omega.{arith}
 use Rattle.laws.proofs.Cases.{choices}
 use Rattle.field.specs.Formats.{format_of}

@@ -5,6 +5,7 @@ use mathlib.Core.Path.{◌≡◌}
 use mathlib.Core.Bool.{true, false}
 use native.Mathlib.Nat.{one-le-pow, pow-le-pow_right}
 use lib.Dec.{lit≤}
+use Rattle.laws.specs.Choice.{if◌then◌else◌}
 use Rattle.field.specs.Formats.{base_of, top_of}
 use Rattle.field.proofs.Bounds.{digits_le}
 use Rattle.field.proofs.kind.Format.top.Goals as goal

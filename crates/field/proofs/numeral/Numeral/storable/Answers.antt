@@ -1,4 +1,5 @@
 -- Each return is the case of the definition that the tests on its path choose.
+use Rattle.laws.specs.Choice.{if◌then◌else◌}
 use Rattle.field.specs.Cells.{storable}
 use Rattle.field.proofs.numeral.Numeral.storable.Goals as goal
 

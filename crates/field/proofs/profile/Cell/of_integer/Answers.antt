@@ -1,5 +1,6 @@
 -- Each return is the case of the definition that the tests on its path choose.
 use borrow.Author.Tests.{lt-ltb, le-ltb}
+use Rattle.laws.specs.Choice.{if◌then◌else◌}
 use Rattle.field.specs.Profiles.{cell_of}
 use Rattle.field.proofs.profile.Cell.of_integer.Goals as goal
 

@@ -11,16 +11,16 @@ use borrow.Author.Rules.{rules}
 use Rattle.field.proofs.value.Value.byte.Goals as goal
 
 pub bounds-self-i : goal.bounds-self-i
-bounds-self-i c = let v = c.args.t1 in let l : length v.bytes ≡ 4 = search rules in omega (arith, c.len.ensures, length-take v.count v.bytes)
+bounds-self-i c = let v = c.args.self in let l : length v.bytes ≡ 4 = search rules in omega (arith, c.len.ensures, length-take v.count v.bytes)
 
 pub returns-then-i-len : goal.returns-then-i-len
-returns-then-i-len c = let v = c.args.t1 in
+returns-then-i-len c = let v = c.args.self in
     let l : length v.bytes ≡ 4 = search rules in
     let d : Fits w8 (get_or v.bytes c.args.i 0) = search rules in
     let h : c.args.i < v.count = omega (arith, c.len.ensures, length-take v.count v.bytes) in
     (sym (get_or-take v.count v.bytes c.args.i 0 h), d.fits)
 
 pub returns-else-i-len : goal.returns-else-i-len
-returns-else-i-len c = let v = c.args.t1 in
+returns-else-i-len c = let v = c.args.self in
     let h : length (bytes_of v) ≤ c.args.i = omega (arith, c.len.ensures) in
     (sym (get_or-eq_default (bytes_of v) 0 h), omega arith)

@@ -1,4 +1,5 @@
 -- Each return is the case of the definition that the tests on its path choose.
+use Rattle.laws.specs.Choice.{◌and◌}
 use borrow.Author.Tests.{le-leb, lt-leb}
 use Rattle.field.specs.Cells.{within}
 use Rattle.field.proofs.work.Work.also_within.Goals as goal

@@ -1,4 +1,5 @@
 -- Each return is the case of the definition that the tests on its path choose.
+use Rattle.laws.specs.Choice.{if◌then◌else◌}
 use Rattle.field.specs.Cells.{started}
 use Rattle.field.proofs.work.Work.start.Goals as goal
 

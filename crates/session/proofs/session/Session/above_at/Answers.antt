@@ -7,4 +7,4 @@ use Rattle.session.proofs.Sized.{above_length}
 use Rattle.session.proofs.session.Session.above_at.Goals as goal
 
 pub returns : goal.returns
-returns c = sym (get_or-eq_default c.args.t1.above no_level (omega (arith, above_length c.args.t1 _ c.well-formed.0)))
+returns c = sym (get_or-eq_default c.args.self.above no_level (omega (arith, above_length c.args.self _ c.well_formed.0)))

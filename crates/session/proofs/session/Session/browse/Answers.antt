@@ -1,4 +1,5 @@
 -- Each arm is the case of the definition that its number chooses.
+use Rattle.laws.specs.Choice.{if◌then◌else◌}
 use Rattle.laws.proofs.Cases.{tests}
 use Rattle.session.specs.Browsing.{browse_step}
 use Rattle.session.proofs.session.Session.browse.Goals as goal

@@ -1,6 +1,7 @@
 -- Each arm is the case of the definition that its number chooses.
 use mathlib.Core.Path.{sym, ◌∙◌}
 use native.Mathlib.Omega.{arith}
+use Rattle.laws.specs.Choice.{if◌then◌else◌}
 use Rattle.laws.proofs.Cases.{if_ne, if_le, if_gt}
 use Rattle.session.specs.Passwords.{entry_step}
 use Rattle.session.proofs.session.Session.enter_password.Goals as goal
