@@ -39,7 +39,7 @@ module _ (extent most : ℕ) where
   pub takes_split : {es : List Entry} (fs : List Field) {gs : List Field} → Takes es (fs ++ gs) → Takes es fs × Takes (put es fs) gs
   takes_split {es} [] t = (Takes.none, rw append-nil t)
   takes_split {es} (f ∷ fs) {gs = gs} (Takes.add a b c t) =
-      let r = takes_split fs {gs = gs} t in (Takes.add a b c r.0, rw (← put_put es (f ∷ []) fs) r.1)
+      let r = takes_split {es = put es (f ∷ [])} fs {gs = gs} t in (Takes.add a b c r.0, rw (← put_put es (f ∷ []) fs) r.1)
 
 -- ---- every field of a list
 

@@ -9,4 +9,4 @@ use Rattle.session.specs.declared.session.Session.{Session}
 use Rattle.session.specs.contracts.session.Session.{the_type}
 
 pub above_length : (s : Session) (vs : List Val) → Is (row the_type) s vs → length s.above ≡ 7
-above_length s vs g = simp length-map at g.1.1.0.1.0.1
+above_length s vs g = g.1.1.0.1.0.1

@@ -14,10 +14,10 @@ unfolding apart_from listed
 loop-i-init c = (refl, omega arith)
 
 pub returns-then-not-ok : goal.returns-then-not-ok
-returns-then-not-ok c = sym (apart_bad c.args.e c.args.index.now c.loop-i.i c.args.k c.loop-i-test.true (rw c.entry_at.ensures at (via c.apart-ok.ensures (not-true _ c.if-not-ok.true))))
+returns-then-not-ok c = sym (apart_bad c.args.e c.args.index.now c.loop-i.i c.args.k c.loop-i-test.true (rw c.entry_at.ensures at (via c.apart-ok.ensures c.if-not-ok.true)))
 
 pub loop-i-preserved : goal.loop-i-preserved
-loop-i-preserved c = (apart_next c.args.e c.args.index.now c.loop-i.i c.loop-i.invariant.0 (rw c.entry_at.ensures at (via c.apart-ok.ensures (not-false _ c.if-not-ok.false))), omega arith)
+loop-i-preserved c = (apart_next c.args.e c.args.index.now c.loop-i.i c.loop-i.invariant.0 (rw c.entry_at.ensures at (via c.apart-ok.ensures c.if-not-ok.false)), omega arith)
 
 pub returns : goal.returns
 returns c = let z : c.loop-i.i ≡ c.args.k = omega arith in rw (← z) (sym c.loop-i.invariant.0)

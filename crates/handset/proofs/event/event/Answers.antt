@@ -14,4 +14,4 @@ returns-then-refusal-ne0 c = let k = refusal_from c.args.image.now (length c.arg
 
 pub returns : goal.returns
 unfolding event_answer
-returns c = let k = refusal_from c.args.image.now (length c.args.sheet.now) c.args.session c.args.event _ _ (session_from_lem _ _ _ _ _ c.refusal_of-faulty.ensures c.session_refusal-unfit.ensures) c.event_refusal-refusal.ensures in let r = c.step.ensures.0 ∙ stepped c.args.image.now c.args.sheet.now c.args.session c.args.event _ k c.if-refusal-ne0.false in (r, (ap (λ (x : Stepped). answer_number x.answer) r, c.step.ensures.1 ∙ stepped_sheet c.args.image.now c.args.sheet.now c.args.session c.args.event _ k c.if-refusal-ne0.false))
+returns c = let k = refusal_from c.args.image.now (length c.args.sheet.now) c.args.session c.args.event _ _ (session_from_lem _ _ _ _ _ c.refusal_of-faulty.ensures c.session_refusal-unfit.ensures) c.event_refusal-refusal.ensures in let r = c.step.ensures.value ∙ stepped c.args.image.now c.args.sheet.now c.args.session c.args.event _ k c.if-refusal-ne0.false in (r, (ap (λ (x : Stepped). answer_number x.answer) r, c.step.ensures.sheet_after ∙ stepped_sheet c.args.image.now c.args.sheet.now c.args.session c.args.event _ k c.if-refusal-ne0.false))

@@ -9,4 +9,4 @@ returns-then-accepted c = sym (c.is_accepted-accepted.ensures c.if-accepted.true
 
 pub returns : goal.returns
 unfolding refusal_of
-returns c = ap (λ (w : Progress). w.refusal) c.check-c.ensures.0
+returns c = ap (λ (w : Progress). w.refusal) c.check-c.ensures.progress_value

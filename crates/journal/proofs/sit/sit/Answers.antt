@@ -4,4 +4,4 @@ use Rattle.journal.proofs.sit.sit.Goals as goal
 
 pub returns : goal.returns
 returns c = let o = c.«open» in
-    sat_whole c.args.image.now c.args.events.now c.args.sheet.now _ _ _ _ o.ensures.0 o.ensures.1 _ _ c.play.ensures.0 c.play.ensures.1
+    sat_whole c.args.image.now c.args.events.now c.args.sheet.now _ _ _ _ o.ensures.0 o.ensures.1 _ _ c.play.ensures.value c.play.ensures.sheet_after

@@ -8,7 +8,7 @@ use Rattle.picture.proofs.picture.put_row.Goals as goal
 
 pub returns-then-k-count : goal.returns-then-k-count
 unfolding row_at
-returns-then-k-count c = record { value = c.put_line.ensures.0; row_after = c.put_line.ensures.1 ∙ sym (if_lt _ _ _ _ c.if-k-count.true) }
+returns-then-k-count c = record { value = c.put_line.ensures.value; row_after = c.put_line.ensures.row_after ∙ sym (if_lt _ _ _ _ c.if-k-count.true) }
 
 pub returns : goal.returns
 unfolding row_at

@@ -12,7 +12,7 @@ pub returns-then-not-zero : goal.returns-then-not-zero
 returns-then-not-zero c = λ e. clash e c.doubt.ensures
 
 pub returns-then-image-p-eq21 : goal.returns-then-image-p-eq21
-returns-then-image-p-eq21 c = λ e. (even_place _ _ _ c.requires.1 c.requires.0 (via c.is_padded-zero.ensures (not-false _ c.if-not-zero.false)), record { fields = []; component = c.string_end-end.ensures (ltb-true 0 _ e); lines = refl; claims = Claims.none refl refl })
+returns-then-image-p-eq21 c = λ e. (even_place _ _ _ c.requires.1 c.requires.0 (via c.is_padded-zero.ensures c.if-not-zero.false), record { fields = []; component = c.string_end-end.ensures (ltb-true 0 _ e); lines = refl; claims = Claims.none refl refl })
 
 pub returns : goal.returns
-returns c = λ e. (even_place _ _ _ c.requires.1 c.requires.0 (via c.is_padded-zero.ensures (not-false _ c.if-not-zero.false)), c.accept_field.ensures e)
+returns c = λ e. (even_place _ _ _ c.requires.1 c.requires.0 (via c.is_padded-zero.ensures c.if-not-zero.false), c.accept_field.ensures e)

@@ -16,7 +16,7 @@ pub returns-then-not-stepped : goal.returns-then-not-stepped
 returns-then-not-stepped c = λ e. absurd (omega arith)
 
 pub returns-then-shown : goal.returns-then-shown
-returns-then-shown c = λ _. (omega arith, counter_is _ _ _ (omega arith) c.requires.1 refl (via c.step_fits-stepped.ensures (not-false _ c.if-not-stepped.false)) (via c.width_fits-shown.ensures c.if-shown.true) (via c.counter_in_range-ranged.ensures (not-false _ c.if-not-ranged.false)))
+returns-then-shown c = λ _. (omega arith, counter_is _ _ _ (omega arith) c.requires.1 refl (via c.step_fits-stepped.ensures c.if-not-stepped.false) (via c.width_fits-shown.ensures c.if-shown.true) (via c.counter_in_range-ranged.ensures c.if-not-ranged.false))
 
 pub returns : goal.returns
 returns c = λ e. absurd (omega arith)

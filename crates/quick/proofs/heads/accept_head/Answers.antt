@@ -13,4 +13,4 @@ pub returns-then-not-placed : goal.returns-then-not-placed
 returns-then-not-placed c = λ e. absurd (omega arith)
 
 pub returns : goal.returns
-returns c = λ e. record { room = omega arith; inside = omega arith; aligned = c.is_padded_to_odd-placed.ensures (not-false _ c.if-not-placed.false); head = c.any_end.ensures e }
+returns c = λ e. record { room = omega arith; inside = omega arith; aligned = c.is_padded_to_odd-placed.ensures c.if-not-placed.false; head = c.any_end.ensures e }

@@ -18,7 +18,7 @@ pub returns-then-tag-ne0-2 : goal.returns-then-tag-ne0-2
 returns-then-tag-ne0-2 c = λ e. absurd (omega arith)
 
 pub returns-then-word_in-p : goal.returns-then-word_in-p
-returns-then-word_in-p c = λ _. (omega arith, (c.is_padded_to_odd-placed.ensures (not-false _ c.if-not-placed.false), λ n z. plain_is _ n _ _ _ z (omega arith) (omega arith) refl (omega arith) c.requires.1 (sym c.word_in.ensures.0 ∙ c.if-word_in-p.true)))
+returns-then-word_in-p c = λ _. (omega arith, (c.is_padded_to_odd-placed.ensures c.if-not-placed.false, λ n z. plain_is _ n _ _ _ z (omega arith) (omega arith) refl (omega arith) c.requires.1 (sym c.word_in.ensures.0 ∙ c.if-word_in-p.true)))
 
 pub returns : goal.returns
 returns c = λ e. absurd (omega arith)

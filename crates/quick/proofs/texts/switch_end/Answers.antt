@@ -25,4 +25,4 @@ pub returns-then-longest-eq0 : goal.returns-then-longest-eq0
 returns-then-longest-eq0 c = λ e. absurd (omega arith)
 
 pub returns : goal.returns
-returns c = λ _. (omega arith, switch_is _ _ _ _ c.requires.1 (omega arith) (c.switch_fits-fits.ensures (not-false _ c.if-not-fits.false)) refl (c.longest_of-longest.ensures (omega arith)))
+returns c = λ _. (omega arith, switch_is _ _ _ _ c.requires.1 (omega arith) (c.switch_fits-fits.ensures c.if-not-fits.false) refl (c.longest_of-longest.ensures (omega arith)))

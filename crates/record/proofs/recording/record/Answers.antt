@@ -11,7 +11,7 @@ pub returns-then-n-gt-MAX_EVENTS : goal.returns-then-n-gt-MAX_EVENTS
 returns-then-n-gt-MAX_EVENTS c = too_many _ _ _ c.if-n-gt-MAX_EVENTS.true c.refused.ensures
 
 pub returns-then-not-known : goal.returns-then-not-known
-returns-then-not-known c = bad_event _ _ c.if-n-gt-MAX_EVENTS.false _ (sym c.are_events-known.ensures ∙ not-true _ c.if-not-known.true) c.refused-then-not-known.ensures
+returns-then-not-known c = bad_event _ _ c.if-n-gt-MAX_EVENTS.false _ (sym c.are_events-known.ensures ∙ c.if-not-known.true) c.refused-then-not-known.ensures
 
 pub overflow_add-length : goal.overflow_add-length
 overflow_add-length c = omega (arith, c.group_count.ensures, count_most (length c.args.events.now))
@@ -20,7 +20,7 @@ pub overflow_add-length-2 : goal.overflow_add-length-2
 overflow_add-length-2 c = omega (arith, c.group_count.ensures, count_most (length c.args.events.now))
 
 pub returns-then-room-length : goal.returns-then-room-length
-returns-then-room-length c = too_short _ _ c.if-n-gt-MAX_EVENTS.false (sym c.are_events-known.ensures ∙ not-false _ c.if-not-known.false) _ (rw c.group_count.ensures at c.if-room-length.true) c.refused-then-room-length.ensures
+returns-then-room-length c = too_short _ _ c.if-n-gt-MAX_EVENTS.false (sym c.are_events-known.ensures ∙ c.if-not-known.false) _ (rw c.group_count.ensures at c.if-room-length.true) c.refused-then-room-length.ensures
 
 pub returns : goal.returns
-returns c = is_recorded _ _ c.if-n-gt-MAX_EVENTS.false (sym c.are_events-known.ensures ∙ not-false _ c.if-not-known.false) (rw c.group_count.ensures at c.if-room-length.false) _ _ _ _ _ _ c.write_number-at.ensures.0 c.write_number-at.ensures.1 c.write_number-start.ensures.0 c.write_number-start.ensures.1 c.put_bytes.ensures c.group_count.ensures
+returns c = is_recorded _ _ c.if-n-gt-MAX_EVENTS.false (sym c.are_events-known.ensures ∙ c.if-not-known.false) (rw c.group_count.ensures at c.if-room-length.false) _ _ _ _ _ _ c.write_number-at.ensures.0 c.write_number-at.ensures.1 c.write_number-start.ensures.0 c.write_number-start.ensures.1 c.put_bytes.ensures c.group_count.ensures

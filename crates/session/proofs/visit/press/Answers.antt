@@ -27,7 +27,7 @@ unfolding pressed if◌then◌else◌
 returns-in-15 c = simp (c.enter.ensures, c.in-15.is)
 
 pub returns-in-0-to-9 : goal.returns-in-0-to-9
-returns-in-0-to-9 c = c.digit.ensures ∙ rw (c.cell_of-c.ensures, c.profile_of-p.ensures) (press_digit _ _ _ c.in_default-1.rest.0.0.0.0.1 c.in_default-1.rest.0.0.0.1 c.in_default-1.rest.0.0.1 c.in_default-1.rest.0.1 c.in_default-1.rest.1 (omega arith))
+returns-in-0-to-9 c = let h = c.in-0-to-9.in_default-own in c.digit.ensures ∙ rw (c.cell_of-c.ensures, c.profile_of-p.ensures) (press_digit _ _ _ h.rest.0.0.0.0.1 h.rest.0.0.0.1 h.rest.0.0.1 h.rest.0.1 h.rest.1 (omega arith))
 
 pub returns-in_default : goal.returns-in_default
-returns-in_default c = press_other _ _ _ c.in_default-1.rest.0.0.0.0.1 c.in_default-1.rest.0.0.0.1 c.in_default-1.rest.0.0.1 c.in_default-1.rest.0.1 c.in_default-1.rest.1 (omega arith)
+returns-in_default c = let h = c.in_default.in_default-own in press_other _ _ _ h.rest.0.0.0.0.1 h.rest.0.0.0.1 h.rest.0.0.1 h.rest.0.1 h.rest.1 (omega arith)

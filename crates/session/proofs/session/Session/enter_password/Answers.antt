@@ -16,8 +16,8 @@ returns-in-13 c = simp (c.give_up.ensures, c.reset_idle-active.ensures, c.in-13.
 
 pub returns-in-0-to-9 : goal.returns-in-0-to-9
 unfolding entry_step
-returns-in-0-to-9 c = c.type_digit.ensures ∙ rw c.reset_idle-active.ensures (sym (if_ne _ 16 _ _ c.in_default-1.rest.0.1 ∙ if_ne _ 13 _ _ c.in_default-1.rest.1 ∙ if_le c.args.event 9 _ _ (omega arith)))
+returns-in-0-to-9 c = let h = c.in-0-to-9.in_default-own in c.type_digit.ensures ∙ rw c.reset_idle-active.ensures (sym (if_ne _ 16 _ _ h.rest.0.1 ∙ if_ne _ 13 _ _ h.rest.1 ∙ if_le c.args.event 9 _ _ (omega arith)))
 
 pub returns-in_default : goal.returns-in_default
 unfolding entry_step
-returns-in_default c = c.flash.ensures ∙ rw c.reset_idle-active.ensures (sym (if_ne _ 16 _ _ c.in_default-1.rest.0.1 ∙ if_ne _ 13 _ _ c.in_default-1.rest.1 ∙ if_gt c.args.event 9 _ _ (omega arith)))
+returns-in_default c = let h = c.in_default.in_default-own in c.flash.ensures ∙ rw c.reset_idle-active.ensures (sym (if_ne _ 16 _ _ h.rest.0.1 ∙ if_ne _ 13 _ _ h.rest.1 ∙ if_gt c.args.event 9 _ _ (omega arith)))

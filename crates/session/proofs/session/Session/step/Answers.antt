@@ -9,7 +9,7 @@ unfolding step_in sheet_in
 returns-in-Browsing c = record { value = simp (c.browse.ensures, c.in-Browsing.is); sheet_after = simp c.in-Browsing.is }
 
 pub returns-in-Visit : goal.returns-in-Visit
-returns-in-Visit c = record { value = c.visit.ensures.0 ∙ in_visit_lem _ _ c.args.self _ _ c.in-Visit.is; sheet_after = c.visit.ensures.1 ∙ in_visit_sheet _ _ c.args.self _ _ c.in-Visit.is }
+returns-in-Visit c = record { value = c.visit.ensures.value ∙ in_visit_lem _ _ c.args.self _ _ c.in-Visit.is; sheet_after = c.visit.ensures.sheet_after ∙ in_visit_sheet _ _ c.args.self _ _ c.in-Visit.is }
 
 pub returns-in-Password : goal.returns-in-Password
 unfolding step_in sheet_in
