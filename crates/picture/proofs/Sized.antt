@@ -10,7 +10,7 @@ use Rattle.session.specs.declared.session.Session.{Session}
 use Rattle.session.specs.contracts.session.Session.{the_type}
 
 pub work_length : (s : Session) (vs : List Val) → Is (row the_type) s vs → length s.work.cells ≡ 32
-work_length s vs g = simp length-map at g.1.1.1.1.1.0.1.1.0.1.0.1
+work_length s vs g = g.1.1.1.1.1.0.1.1.0.1.0.1
 
 pub columns_byte : (s : Session) (vs : List Val) → Is (row the_type) s vs → s.columns < 256
 columns_byte s vs g = g.1.1.1.1.1.1.1.0.1

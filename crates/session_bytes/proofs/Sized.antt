@@ -24,10 +24,10 @@ use Rattle.session.specs.contracts.session.Mode as modes
 use Rattle.session_bytes.specs.Sized.{Places, Numbers, ModeSized, Sized}
 
 pub cells_length : (s : Session) (vs : List Val) → Is (row the_type) s vs → length s.work.cells ≡ 32
-cells_length s vs g = simp length-map at g.1.1.1.1.1.0.1.1.0.1.0.1
+cells_length s vs g = g.1.1.1.1.1.0.1.1.0.1.0.1
 
 pub typed_length : (s : Session) (vs : List Val) → Is (row the_type) s vs → length s.typed ≡ 8
-typed_length s vs g = simp length-map at g.1.1.1.1.1.1.0.1.0.1
+typed_length s vs g = g.1.1.1.1.1.1.0.1.0.1
 
 -- each number of an array fits its width
 numbers_fit : (w : Width) (n : ℕ) → 2 ^ bits w ≡ 256 ^ n → (xs : List ℕ) (us : List Val)

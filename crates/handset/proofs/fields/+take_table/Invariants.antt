@@ -12,3 +12,6 @@ invariant-loop-n l = (rest l.image l.below l.n l.p (gathered l.sheet l.count l.p
 
 abbrev pub decreases-loop-n : goal.decreases-loop-n
 decreases-loop-n l = 100 - l.n
+
+abbrev pub decreases-take_table : goal.decreases-take_table
+decreases-take_table l = l.left

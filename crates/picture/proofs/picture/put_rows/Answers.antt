@@ -33,7 +33,7 @@ pub put_row-mark-requires : goal.put_row-mark-requires
 put_row-mark-requires c = (c.requires.0, lent_length c.loop-left.picture c.loop-left.at _ (omega (arith, rows_less c.args.session.columns c.loop-left.left c.loop-left.at _ c.loop-left-test.true c.loop-left.invariant.1, c.loop-left.invariant.0)), refl, c.read_head-h.ensures)
 
 pub loop-left-preserved : goal.loop-left-preserved
-loop-left-preserved c = let q = rows_less c.args.session.columns c.loop-left.left c.loop-left.at _ c.loop-left-test.true c.loop-left.invariant.1 in let b = lent_row c.loop-left.picture c.put_row-mark.new.0 c.loop-left.at c.args.session.columns (ap length c.put_row-mark.ensures.row_after ∙ length_row_at _ _ c.args.session _ c.loop-left.k c.loop-left.p c.requires.0) (omega (arith, q, c.loop-left.invariant.0)) in (ap length b ∙ length_over c.loop-left.picture c.loop-left.at _ ∙ c.loop-left.invariant.0, q, omega arith, rows_turn _ _ c.args.session _ c.loop-left.left c.loop-left.k c.loop-left.p c.loop-left.at _ c.loop-left.picture _ c.read_head-h.result c.requires.0 c.loop-left-test.true c.read_head-h.ensures (c.put_row-mark.ensures.row_after ∙ row_known _ _ c.args.session _ _ c.loop-left.k c.loop-left.p c.loop-left.invariant.5) b ∙ c.loop-left.invariant.3, line_next _ c.args.session.here.table.0 c.loop-left.k c.loop-left.p c.read_head-h.result c.loop-left.invariant.4 c.read_head-h.ensures, known_turn _ c.args.session.here.table.0 c.loop-left.k c.loop-left.p c.read_head-h.result c.loop-left.invariant.4 c.read_head-h.ensures c.loop-left.count _ c.loop-left.invariant.5 c.known_next-count.ensures, cursor_turn _ c.args.session.here.table.0 c.loop-left.k _ _ c.loop-left.p c.loop-left.cursor _ c.loop-left.invariant.6 c.chosen-cursor.ensures c.loop-left.invariant.4, omega arith, mark_turn _ c.args.session.here c.loop-left.k c.loop-left.p c.put_row-mark.result c.loop-left.marked _ c.loop-left.invariant.4 c.chosen_mark-marked.ensures c.put_row-mark.ensures.value c.loop-left.invariant.8)
+loop-left-preserved c = let q = rows_less c.args.session.columns c.loop-left.left c.loop-left.at _ c.loop-left-test.true c.loop-left.invariant.1 in let b = lent_row c.loop-left.picture c.put_row-mark.new.row c.loop-left.at c.args.session.columns (ap length c.put_row-mark.ensures.row_after ∙ length_row_at _ _ c.args.session _ c.loop-left.k c.loop-left.p c.requires.0) (omega (arith, q, c.loop-left.invariant.0)) in (ap length b ∙ length_over c.loop-left.picture c.loop-left.at _ ∙ c.loop-left.invariant.0, q, omega arith, rows_turn _ _ c.args.session _ c.loop-left.left c.loop-left.k c.loop-left.p c.loop-left.at _ c.loop-left.picture _ c.read_head-h.result c.requires.0 c.loop-left-test.true c.read_head-h.ensures (c.put_row-mark.ensures.row_after ∙ row_known _ _ c.args.session _ _ c.loop-left.k c.loop-left.p c.loop-left.invariant.5) b ∙ c.loop-left.invariant.3, line_next _ c.args.session.here.table.0 c.loop-left.k c.loop-left.p c.read_head-h.result c.loop-left.invariant.4 c.read_head-h.ensures, known_turn _ c.args.session.here.table.0 c.loop-left.k c.loop-left.p c.read_head-h.result c.loop-left.invariant.4 c.read_head-h.ensures c.loop-left.count _ c.loop-left.invariant.5 c.known_next-count.ensures, cursor_turn _ c.args.session.here.table.0 c.loop-left.k _ _ c.loop-left.p c.loop-left.cursor _ c.loop-left.invariant.6 c.chosen-cursor.ensures c.loop-left.invariant.4, omega arith, mark_turn _ c.args.session.here c.loop-left.k c.loop-left.p c.put_row-mark.result c.loop-left.marked _ c.loop-left.invariant.4 c.chosen_mark-marked.ensures c.put_row-mark.ensures.value c.loop-left.invariant.8)
 
 pub asked-requires : goal.asked-requires
 asked-requires c = (omega (arith, c.loop-left.invariant.7), c.loop-left.invariant.5, c.loop-left.invariant.6, c.loop-left.invariant.8)

@@ -5,12 +5,12 @@ use Rattle.picture.proofs.title.entry_of.Goals as goal
 
 pub returns-in-Browsing : goal.returns-in-Browsing
 unfolding top_row_in if◌then◌else◌
-returns-in-Browsing c = rw c.in-Browsing.is
+returns-in-Browsing c = simp c.in-Browsing.is
 
 pub returns-in-Visit : goal.returns-in-Visit
 unfolding top_row_in if◌then◌else◌
-returns-in-Visit c = rw c.in-Visit.is
+returns-in-Visit c = simp c.in-Visit.is
 
 pub returns-in-Password : goal.returns-in-Password
 unfolding top_row_in if◌then◌else◌
-returns-in-Password c = rw c.in-Password.is
+returns-in-Password c = simp c.in-Password.is

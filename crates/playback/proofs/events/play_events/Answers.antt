@@ -11,7 +11,7 @@ pub overflow_add-i : goal.overflow_add-i
 overflow_add-i c = omega (arith, c.loop-i-test.true, c.well_formed)
 
 pub loop-i-preserved : goal.loop-i-preserved
-loop-i-preserved c = (c.step-stepped.auto.1.1.0 ∙ c.loop-i.invariant.0, (c.note.auto.0 ∙ c.loop-i.invariant.1.0, (unrefused_next c.args.image.now c.args.events.now c.requires.1 _ _ c.loop-i.invariant.1.1.0 _ _ _ c.loop-i-test.true c.step-stepped.ensures.value c.step-stepped.ensures.sheet_after, (played_next c.args.image.now c.args.events.now c.requires.1 _ _ c.loop-i.invariant.1.1.0 _ _ _ c.loop-i-test.true c.step-stepped.ensures.value c.step-stepped.ensures.sheet_after ∙ c.loop-i.invariant.1.1.1.0, noted_next c.args.image.now c.args.events.now c.requires.1 _ _ c.loop-i.invariant.1.1.0 _ _ _ c.loop-i-test.true c.step-stepped.ensures.value c.step-stepped.ensures.sheet_after _ _ _ c.number.ensures c.note.ensures ∙ c.loop-i.invariant.1.1.1.1))))
+loop-i-preserved c = (c.step-stepped.auto.sheet ∙ c.loop-i.invariant.0, (c.note.auto.answers ∙ c.loop-i.invariant.1.0, (unrefused_next c.args.image.now c.args.events.now c.requires.1 _ _ c.loop-i.invariant.1.1.0 _ _ _ c.loop-i-test.true c.step-stepped.ensures.value c.step-stepped.ensures.sheet_after, (played_next c.args.image.now c.args.events.now c.requires.1 _ _ c.loop-i.invariant.1.1.0 _ _ _ c.loop-i-test.true c.step-stepped.ensures.value c.step-stepped.ensures.sheet_after ∙ c.loop-i.invariant.1.1.1.0, noted_next c.args.image.now c.args.events.now c.requires.1 _ _ c.loop-i.invariant.1.1.0 _ _ _ c.loop-i-test.true c.step-stepped.ensures.value c.step-stepped.ensures.sheet_after _ _ _ c.number.ensures c.note.ensures ∙ c.loop-i.invariant.1.1.1.1))))
 
 pub shape_of-sheet : goal.shape_of-sheet
 shape_of-sheet c = c.loop-i.invariant.0

@@ -2,7 +2,7 @@
 use mathlib.Core.Path.{◌≡◌}
 use lib.ListN.{length}
 use Rattle.quick.specs.Accept.{AmongLines}
-use Prim.Native.Nat.{◌-◌, ◌≤◌}
+use Prim.Native.Nat.{◌+◌, ◌-◌, ◌≤◌}
 use Rattle.quick.proofs.accept.+accept_submenu_accept_table.Given as goal
 
 abbrev pub invariant-accept_table-loop-n : goal.invariant-accept_table-loop-n
@@ -10,3 +10,9 @@ invariant-accept_table-loop-n l = ((AmongLines l.image l.extent l.below l.initia
 
 abbrev pub decreases-accept_table-loop-n : goal.decreases-accept_table-loop-n
 decreases-accept_table-loop-n l = 99 - l.n
+
+abbrev pub decreases-accept_submenu : goal.decreases-accept_submenu
+decreases-accept_submenu l = l.below + l.below + 1
+
+abbrev pub decreases-accept_table : goal.decreases-accept_table
+decreases-accept_table l = l.left + l.left

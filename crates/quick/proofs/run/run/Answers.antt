@@ -23,31 +23,31 @@ pub take_plain-w-requires : goal.take_plain-w-requires
 take_plain-w-requires c = (omega arith, refl, omega (arith, c.loop-s.invariant.1, c.requires.marked))
 
 pub shape_of-marks-then-not-w : goal.shape_of-marks-then-not-w
-shape_of-marks-then-not-w c = c.take_plain-w.auto.1.1.1.1.1.0 ∙ c.loop-s.invariant.1
+shape_of-marks-then-not-w c = c.take_plain-w.auto.marks ∙ c.loop-s.invariant.1
 
 pub returns-then-not-w : goal.returns-then-not-w
-returns-then-not-w c = rw (c.take_plain-w.ensures.1 c.if-not-w.true) c.loop-s.invariant.0.0
+returns-then-not-w c = rw (c.take_plain-w.ensures.1 (not-true _ c.if-not-w.true)) c.loop-s.invariant.0.0
 
 pub next_plain-s-requires : goal.next_plain-s-requires
 next_plain-s-requires c = c.loop-s.invariant.0.0.inside
 
 pub shape_of-marks-then-s : goal.shape_of-marks-then-s
-shape_of-marks-then-s c = c.take_plain-w.auto.1.1.1.1.1.0 ∙ c.loop-s.invariant.1
+shape_of-marks-then-s c = c.take_plain-w.auto.marks ∙ c.loop-s.invariant.1
 
 pub returns-then-s : goal.returns-then-s
-returns-then-s c = rw (c.next_plain-s.ensures.1 c.if-s.true) (moves_then _ _ c.loop-s.invariant.0.0 (part_moves _ _ _ c.loop-s.invariant.0.1 c.loop-s.invariant.0.0.inside (c.is_padded_to_even-zero.ensures c.if-not-zero.false) (c.take_plain-w.ensures.0 c.if-not-w.false) true (λ e. clash refl e) (λ _. c.if-tag-eq1.true)))
+returns-then-s c = rw (c.next_plain-s.ensures.1 c.if-s.true) (moves_then _ _ c.loop-s.invariant.0.0 (part_moves _ _ _ c.loop-s.invariant.0.1 c.loop-s.invariant.0.0.inside (c.is_padded_to_even-zero.ensures c.if-not-zero.false) (c.take_plain-w.ensures.0 (not-false _ c.if-not-w.false)) true (λ e. clash refl e) (λ _. c.if-tag-eq1.true)))
 
 pub loop-s-smaller-else-s : goal.loop-s-smaller-else-s
-loop-s-smaller-else-s c = omega (arith, part_onward _ _ c.loop-s.s c.loop-s.invariant.0.1 c.loop-s.invariant.0.0.inside (c.is_padded_to_even-zero.ensures c.if-not-zero.false) (c.take_plain-w.ensures.0 c.if-not-w.false), (next_moves _ c.args.extent c.loop-s.marks c.if-s.false (c.next_plain-s.ensures.0 c.if-s.false)).onward)
+loop-s-smaller-else-s c = omega (arith, part_onward _ _ c.loop-s.s c.loop-s.invariant.0.1 c.loop-s.invariant.0.0.inside (c.is_padded_to_even-zero.ensures c.if-not-zero.false) (c.take_plain-w.ensures.0 (not-false _ c.if-not-w.false)), (next_moves _ c.args.extent c.loop-s.marks c.if-s.false (c.next_plain-s.ensures.0 c.if-s.false)).onward)
 
 pub loop-s-preserved-else-s : goal.loop-s-preserved-else-s
-loop-s-preserved-else-s c = ((moves_then _ _ (moves_then _ _ c.loop-s.invariant.0.0 (part_moves _ _ _ c.loop-s.invariant.0.1 c.loop-s.invariant.0.0.inside (c.is_padded_to_even-zero.ensures c.if-not-zero.false) (c.take_plain-w.ensures.0 c.if-not-w.false) true (λ e. clash refl e) (λ _. c.if-tag-eq1.true))) (next_moves _ _ _ c.if-s.false (c.next_plain-s.ensures.0 c.if-s.false)), c.if-s.false), c.take_plain-w.auto.1.1.1.1.1.0 ∙ c.loop-s.invariant.1)
+loop-s-preserved-else-s c = ((moves_then _ _ (moves_then _ _ c.loop-s.invariant.0.0 (part_moves _ _ _ c.loop-s.invariant.0.1 c.loop-s.invariant.0.0.inside (c.is_padded_to_even-zero.ensures c.if-not-zero.false) (c.take_plain-w.ensures.0 (not-false _ c.if-not-w.false)) true (λ e. clash refl e) (λ _. c.if-tag-eq1.true))) (next_moves _ _ _ c.if-s.false (c.next_plain-s.ensures.0 c.if-s.false)), c.if-s.false), c.take_plain-w.auto.marks ∙ c.loop-s.invariant.1)
 
 pub loop-s-smaller : goal.loop-s-smaller
-loop-s-smaller c = omega (arith, part_onward _ _ c.loop-s.s c.loop-s.invariant.0.1 c.loop-s.invariant.0.0.inside (c.is_padded_to_even-zero.ensures c.if-not-zero.false) (c.take_plain-w.ensures.0 c.if-not-w.false))
+loop-s-smaller c = omega (arith, part_onward _ _ c.loop-s.s c.loop-s.invariant.0.1 c.loop-s.invariant.0.0.inside (c.is_padded_to_even-zero.ensures c.if-not-zero.false) (c.take_plain-w.ensures.0 (not-false _ c.if-not-w.false)))
 
 pub loop-s-preserved : goal.loop-s-preserved
-loop-s-preserved c = ((moves_then _ _ c.loop-s.invariant.0.0 (part_moves _ _ _ c.loop-s.invariant.0.1 c.loop-s.invariant.0.0.inside (c.is_padded_to_even-zero.ensures c.if-not-zero.false) (c.take_plain-w.ensures.0 c.if-not-w.false) _ (λ _. omega (arith, c.if-tag-eq1.false)) (λ e. clash e c.loop-s.invariant.0.1)), c.loop-s.invariant.0.1), c.take_plain-w.auto.1.1.1.1.1.0 ∙ c.loop-s.invariant.1)
+loop-s-preserved c = ((moves_then _ _ c.loop-s.invariant.0.0 (part_moves _ _ _ c.loop-s.invariant.0.1 c.loop-s.invariant.0.0.inside (c.is_padded_to_even-zero.ensures c.if-not-zero.false) (c.take_plain-w.ensures.0 (not-false _ c.if-not-w.false)) _ (λ _. omega (arith, c.if-tag-eq1.false)) (λ e. clash e c.loop-s.invariant.0.1)), c.loop-s.invariant.0.1), c.take_plain-w.auto.marks ∙ c.loop-s.invariant.1)
 
 pub shape_of-marks : goal.shape_of-marks
 shape_of-marks c = c.loop-s.invariant.1

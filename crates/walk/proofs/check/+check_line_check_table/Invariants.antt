@@ -1,5 +1,5 @@
 -- Each return is a step law of CodeSteps; the loop's invariant: what is left of the table's lines, done to the present state, is the whole. The depth left falls.
-use Prim.Native.Nat.{◌-◌}
+use Prim.Native.Nat.{◌+◌, ◌-◌}
 use mathlib.Core.Path.{◌≡◌}
 use lib.ListN.{length}
 use Rattle.acceptance.specs.Check.{on_lines, on_table}
@@ -13,3 +13,9 @@ invariant-check_table-loop-n l = (on_lines l.image l.extent (capacity l.initial.
 
 abbrev pub decreases-check_table-loop-n : goal.decreases-check_table-loop-n
 decreases-check_table-loop-n l = 100 - l.n
+
+abbrev pub decreases-check_line : goal.decreases-check_line
+decreases-check_line l = l.below + l.below + 1
+
+abbrev pub decreases-check_table : goal.decreases-check_table
+decreases-check_table l = l.left + l.left

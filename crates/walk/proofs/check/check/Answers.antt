@@ -14,4 +14,6 @@ returns-then-code-ne0 c = record { progress_value = simp (c.refused.ensures, ←
 
 pub returns : goal.returns
 unfolding checked walked listed index_of numbers_of fit if◌then◌else◌
-returns c = settled (checked c.args.image.now c.args.extent) c.check_table-progress.result _ _ refl c.check_table-progress.auto.1.1.1.1.1.0 c.check_table-progress.ensures.stays_clean (simp (← c.prolog_code-code.ensures, eq-eqb _ _ c.if-code-ne0.false) c.check_table-progress.ensures.index_after)
+returns c =
+    let both = settled (checked c.args.image.now c.args.extent) c.check_table-progress.result _ _ refl c.check_table-progress.auto.index c.check_table-progress.ensures.stays_clean (simp (← c.prolog_code-code.ensures, eq-eqb _ _ c.if-code-ne0.false) c.check_table-progress.ensures.index_after) in
+    record { progress_value = both.0; index_value = both.1 }

@@ -19,8 +19,8 @@ returns-then-first c = simp (ne_eqb _ _ c.if-n-eq0.false, sym c.is_first-first.e
 
 pub returns-then-before-p : goal.returns-then-before-p
 unfolding agrees if◌then◌else◌
-returns-then-before-p c = simp (ne_eqb _ _ c.if-n-eq0.false, sym c.is_first-first.ensures ∙ c.if-first.false, c.back_at.ensures) (same_test (back_at c.args.image.now c.args.p) c.args c.args.p c.if-before-p.true)
+returns-then-before-p c = simp (ne_eqb _ _ c.if-n-eq0.false, sym c.is_first-first.ensures ∙ c.if-first.false, c.back_at.ensures) (same_test (back_at c.args.image.now c.args.p) c.args.before c.args.p c.if-before-p.true)
 
 pub returns : goal.returns
 unfolding agrees if◌then◌else◌
-returns c = simp (ne_eqb _ _ c.if-n-eq0.false, sym c.is_first-first.ensures ∙ c.if-first.false) (no_test (back_at c.args.image.now c.args.p) c.args c.args.p c.if-before-p.false)
+returns c = simp (ne_eqb _ _ c.if-n-eq0.false, sym c.is_first-first.ensures ∙ c.if-first.false) (no_test (back_at c.args.image.now c.args.p) c.args.before c.args.p c.if-before-p.false)
