@@ -31,7 +31,7 @@ typed_length s vs g = g.1.1.1.1.1.1.0.1.0.1
 
 -- each number of an array fits its width
 numbers_fit : (w : Width) (n : ℕ) → 2 ^ bits w ≡ 256 ^ n → (xs : List ℕ) (us : List Val)
-    → shadow (each ℕ (UInt w).own_val (map (uint_field w).into xs) us) → Numbers n xs
+    → shadow (each ℕ (UInt w).own_val xs us) → Numbers n xs
 numbers_fit w n e [] us g = Numbers.none
 numbers_fit w n e (x ∷ xs) [] g = absurd g
 numbers_fit w n e (x ∷ xs) (u ∷ us) g = Numbers.more (rw e at g.0.1) (numbers_fit w n e xs us g.1)
@@ -52,7 +52,7 @@ typed_fit : (s : Session) (vs : List Val) → Is (row the_type) s vs → Numbers
 typed_fit s vs g = numbers_fit w8 1 refl s.typed _ g.1.1.1.1.1.1.0.1.1
 
 -- each level's place is 64 bits
-levels_fit_lem : (ls : List Level) (us : List Val) → shadow (each _ (level.the_field).row.own_val (map (level.the_field).into ls) us) → Places ls
+levels_fit_lem : (ls : List Level) (us : List Val) → shadow (each _ (level.the_row).own_val ls us) → Places ls
 levels_fit_lem [] us g = Places.none
 levels_fit_lem (l ∷ ls) [] g = absurd g
 levels_fit_lem (l ∷ ls) (u ∷ us) g = Places.more g.0.1.1.0.1.1.0.1 (levels_fit_lem ls us g.1)

@@ -10,8 +10,8 @@ use Rattle.handset.proofs.event.event.Goals as goal
 
 pub returns-then-refusal-ne0 : goal.returns-then-refusal-ne0
 unfolding event_answer
-returns-then-refusal-ne0 c = let k = refusal_from c.args.image.now (length c.args.sheet.now) c.args.session c.args.event _ _ (session_from_lem _ _ _ _ _ c.refusal_of-faulty.ensures c.session_refusal-unfit.ensures) c.event_refusal-refusal.ensures in let r = refused_step c.args.image.now c.args.sheet.now c.args.session c.args.event _ k c.if-refusal-ne0.true in (r, (ap (λ (x : Stepped). answer_number x.answer) r, refused_sheet c.args.image.now c.args.sheet.now c.args.session c.args.event _ k c.if-refusal-ne0.true))
+returns-then-refusal-ne0 c = let k = refusal_from c.args.image.now (length c.args.sheet.now) c.args.session c.args.event _ _ (session_from_lem _ _ _ _ _ c.refusal_of-faulty.ensures c.session_refusal-unfit.ensures) c.event_refusal-refusal.ensures in let r = refused_step c.args.image.now c.args.sheet.now c.args.session c.args.event _ k c.if-refusal-ne0.true in record { value = r; answer_value = ap (λ (x : Stepped). answer_number x.answer) r; sheet_after = refused_sheet c.args.image.now c.args.sheet.now c.args.session c.args.event _ k c.if-refusal-ne0.true }
 
 pub returns : goal.returns
 unfolding event_answer
-returns c = let k = refusal_from c.args.image.now (length c.args.sheet.now) c.args.session c.args.event _ _ (session_from_lem _ _ _ _ _ c.refusal_of-faulty.ensures c.session_refusal-unfit.ensures) c.event_refusal-refusal.ensures in let r = c.step.ensures.value ∙ stepped c.args.image.now c.args.sheet.now c.args.session c.args.event _ k c.if-refusal-ne0.false in (r, (ap (λ (x : Stepped). answer_number x.answer) r, c.step.ensures.sheet_after ∙ stepped_sheet c.args.image.now c.args.sheet.now c.args.session c.args.event _ k c.if-refusal-ne0.false))
+returns c = let k = refusal_from c.args.image.now (length c.args.sheet.now) c.args.session c.args.event _ _ (session_from_lem _ _ _ _ _ c.refusal_of-faulty.ensures c.session_refusal-unfit.ensures) c.event_refusal-refusal.ensures in let r = c.step.ensures.value ∙ stepped c.args.image.now c.args.sheet.now c.args.session c.args.event _ k c.if-refusal-ne0.false in record { value = r; answer_value = ap (λ (x : Stepped). answer_number x.answer) r; sheet_after = c.step.ensures.sheet_after ∙ stepped_sheet c.args.image.now c.args.sheet.now c.args.session c.args.event _ k c.if-refusal-ne0.false }

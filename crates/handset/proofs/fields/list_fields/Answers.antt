@@ -7,8 +7,12 @@ use Rattle.handset.proofs.fields.list_fields.Goals as goal
 
 pub returns-then-refusal-ne0 : goal.returns-then-refusal-ne0
 unfolding fit
-returns-then-refusal-ne0 c = none_listed c.args.image.now c.args.extent _ c.refusal_of-refusal.ensures _ refl c.if-refusal-ne0.true
+returns-then-refusal-ne0 c =
+    let told = none_listed c.args.image.now c.args.extent _ c.refusal_of-refusal.ensures _ refl c.if-refusal-ne0.true in
+    record { refusal_value = told.0; count_value = told.1.0; places_value = told.1.1 }
 
 pub returns : goal.returns
 unfolding fields_of component_places fit
-returns c = all_listed c.args.image.now c.args.extent _ c.refusal_of-refusal.ensures _ refl _ c.if-refusal-ne0.false c.take_table-count.ensures
+returns c =
+    let told = all_listed c.args.image.now c.args.extent _ c.refusal_of-refusal.ensures _ refl _ c.if-refusal-ne0.false c.take_table-count.ensures in
+    record { refusal_value = told.0; count_value = told.1.0; places_value = told.1.1 }

@@ -8,7 +8,7 @@ pub returns-then-refusal-ne0 : goal.returns-then-refusal-ne0
 returns-then-refusal-ne0 c = refused_before _ _ 12 _ refl c.if-refusal-ne0.true
 
 pub returns-then-fits : goal.returns-then-fits
-returns-then-fits c = not_refused _ _ 12 _ refl c.if-refusal-ne0.false (via c.fits2.ensures c.if-fits.true)
+returns-then-fits c = not_refused _ _ 12 _ refl c.if-refusal-ne0.false (via c.fits-fits.ensures c.if-fits.true)
 
 pub returns : goal.returns
-returns c = refused_here _ _ 12 _ refl c.if-refusal-ne0.false (via c.fits2.ensures c.if-fits.false)
+returns c = refused_here _ _ 12 _ refl c.if-refusal-ne0.false (via c.fits-fits.ensures c.if-fits.false)
