@@ -117,7 +117,7 @@ module _ {W S : Type 0} (R : Rules W) (Y : System W S) where
         counts x ≡ true → Same s j → Fresh R Y s → Inv s j
     begin m same (none v) = record { same = same; open' = rw v tt }
     begin {x} {t} {vs} {bs} m same (begun q f v) =
-        record { same = same; open' = rw v (f, rw (L.Passed-start, same q f) (leads_start R q x (record { trace = t; visits = vs; bytes = bs }) m)) }
+        record { same = same; open' = rw v (f, rw (L.passed_start, same q f) (leads_start R q x (record { trace = t; visits = vs; bytes = bs }) m)) }
 
     step_inv : (s : S) (e : ℕ) (j : Journal) → Inv s j → Step R Y s e (Y.next s e) (Y.answer s e) → Inv (Y.next s e) (fed R j (answered e (Y.answer s e)))
     step_inv s e j inv (skips i v k) = rw (fed_skip R j (answered e (Y.answer s e)) i) (record { same = kept inv k; open' = rw v inv.open' })

@@ -11,10 +11,12 @@ pub overflow_add-i : goal.overflow_add-i
 overflow_add-i c = omega (arith, c.loop-i-test.true, c.well_formed)
 
 pub loop-i-preserved : goal.loop-i-preserved
-loop-i-preserved c = (c.event-stepped.auto.sheet ∙ c.loop-i.invariant.0, played_next c.args.image.now c.args.events.now _ _ _ _ _ c.loop-i-test.true c.event-stepped.ensures.value c.event-stepped.ensures.answer_value.1 ∙ c.loop-i.invariant.1)
+loop-i-preserved c = (c.event-stepped.auto.sheet ∙ c.loop-i.invariant.0, played_next c.args.image.now c.args.events.now _ _ _ _ _ c.loop-i-test.true c.event-stepped.ensures.value c.event-stepped.ensures.sheet_after ∙ c.loop-i.invariant.1)
 
 pub shape_of-sheet : goal.shape_of-sheet
 shape_of-sheet c = c.loop-i.invariant.0
 
 pub returns : goal.returns
-returns c = played_whole c.args.image.now c.args.events.now _ _ _ _ c.loop-i-test.false c.loop-i.invariant.1
+returns c =
+    let told = played_whole c.args.image.now c.args.events.now _ _ _ _ c.loop-i-test.false c.loop-i.invariant.1 in
+    record { value = told.0; sheet_after = told.1 }

@@ -8,10 +8,14 @@ use Rattle.record.proofs.Groups.{count_most}
 use Rattle.record.proofs.recording.record.Goals as goal
 
 pub returns-then-n-gt-MAX_EVENTS : goal.returns-then-n-gt-MAX_EVENTS
-returns-then-n-gt-MAX_EVENTS c = too_many _ _ _ c.if-n-gt-MAX_EVENTS.true c.refused.ensures
+returns-then-n-gt-MAX_EVENTS c =
+    let told = too_many _ _ _ c.if-n-gt-MAX_EVENTS.true c.refused.ensures in
+    record { value = told.0; room_after = told.1 }
 
 pub returns-then-not-known : goal.returns-then-not-known
-returns-then-not-known c = bad_event _ _ c.if-n-gt-MAX_EVENTS.false _ (sym c.are_events-known.ensures ∙ c.if-not-known.true) c.refused-then-not-known.ensures
+returns-then-not-known c =
+    let told = bad_event _ _ c.if-n-gt-MAX_EVENTS.false _ (sym c.are_events-known.ensures ∙ c.if-not-known.true) c.refused-then-not-known.ensures in
+    record { value = told.0; room_after = told.1 }
 
 pub overflow_add-length : goal.overflow_add-length
 overflow_add-length c = omega (arith, c.group_count.ensures, count_most (length c.args.events.now))
@@ -20,7 +24,11 @@ pub overflow_add-length-2 : goal.overflow_add-length-2
 overflow_add-length-2 c = omega (arith, c.group_count.ensures, count_most (length c.args.events.now))
 
 pub returns-then-room-length : goal.returns-then-room-length
-returns-then-room-length c = too_short _ _ c.if-n-gt-MAX_EVENTS.false (sym c.are_events-known.ensures ∙ c.if-not-known.false) _ (rw c.group_count.ensures at c.if-room-length.true) c.refused-then-room-length.ensures
+returns-then-room-length c =
+    let told = too_short _ _ c.if-n-gt-MAX_EVENTS.false (sym c.are_events-known.ensures ∙ c.if-not-known.false) _ (rw c.group_count.ensures at c.if-room-length.true) c.refused-then-room-length.ensures in
+    record { value = told.0; room_after = told.1 }
 
 pub returns : goal.returns
-returns c = is_recorded _ _ c.if-n-gt-MAX_EVENTS.false (sym c.are_events-known.ensures ∙ c.if-not-known.false) (rw c.group_count.ensures at c.if-room-length.false) _ _ _ _ _ _ c.write_number-at.ensures.0 c.write_number-at.ensures.1 c.write_number-start.ensures.0 c.write_number-start.ensures.1 c.put_bytes.ensures c.group_count.ensures
+returns c =
+    let told = is_recorded _ _ c.if-n-gt-MAX_EVENTS.false (sym c.are_events-known.ensures ∙ c.if-not-known.false) (rw c.group_count.ensures at c.if-room-length.false) _ _ _ _ _ _ c.write_number-at.ensures.0 c.write_number-at.ensures.1 c.write_number-start.ensures.0 c.write_number-start.ensures.1 c.put_bytes.ensures c.group_count.ensures in
+    record { value = told.0; room_after = told.1 }
