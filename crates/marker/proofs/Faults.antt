@@ -115,6 +115,7 @@ module _ (im : List ℕ) (extent : ℕ) (z : refusal_of im extent ≡ 0) where
 
   pub none_twice : (earlier : List ℕ) (qs : List Question) → Twice (places_of qs) → questions_fit (fields_of im) earlier qs ≡ true → ⊥
   unfolding questions_fit
+  none_twice earlier [] t h = elim t [ ]
   none_twice earlier (q ∷ qs) (Twice.here m) h = none_again q.place.0 (q.place.0 ∷ earlier) qs (in_head q.place.0 q.place.0 earlier refl) m (and_r _ _ h)
   none_twice earlier (q ∷ qs) (Twice.later t) h = none_twice (q.place.0 ∷ earlier) qs t (and_r _ _ h)
 

@@ -7,10 +7,10 @@ pub returns-then-session-ne-SIZE : goal.returns-then-session-ne-SIZE
 returns-then-session-ne-SIZE c = unsized _ _ _ _ _ _ c.byte_of-across.ensures c.byte_of-down.ensures _ _ _ c.if-session-ne-SIZE.true _ c.unsized_replay-refusal.ensures
 
 pub returns-then-replayed-ne0 : goal.returns-then-replayed-ne0
-returns-then-replayed-ne0 c = play_refused _ _ _ _ _ _ c.byte_of-across.ensures c.byte_of-down.ensures _ _ _ c.if-session-ne-SIZE.false _ c.play-replayed.ensures.unrefused _ _ _ c.play-replayed.ensures.events_value.0 c.play-replayed.ensures.events_value.1 c.write_session.ensures.bytes_after c.write_session.ensures.session_value _ c.if-replayed-ne0.true c.refused_by.ensures
+returns-then-replayed-ne0 c = play_refused _ _ _ _ _ _ c.byte_of-across.ensures c.byte_of-down.ensures _ _ _ c.if-session-ne-SIZE.false _ c.play-replayed.ensures.value _ _ _ c.play-replayed.ensures.sheet_after c.play-replayed.ensures.answers_after c.write_session.ensures.bytes_after c.write_session.ensures.session_value _ c.if-replayed-ne0.true c.refused_by.ensures
 
 pub overflow_cast-result-2 : goal.overflow_cast-result-2
-overflow_cast-result-2 c = omega (arith, events_small c.args.image.now c.args.sheet.now _ _ _ _ c.byte_of-across.ensures c.byte_of-down.ensures c.args.recorded.now c.args.answers.now c.args.session.now c.if-session-ne-SIZE.false _ c.play-replayed.ensures.unrefused (λ k. omega (arith, c.type_inv.recorded k)) c.if-replayed-ne0.false)
+overflow_cast-result-2 c = omega (arith, events_small c.args.image.now c.args.sheet.now _ _ _ _ c.byte_of-across.ensures c.byte_of-down.ensures c.args.recorded.now c.args.answers.now c.args.session.now c.if-session-ne-SIZE.false _ c.play-replayed.ensures.value (λ k. omega (arith, c.type_inv.recorded k)) c.if-replayed-ne0.false)
 
 pub returns : goal.returns
-returns c = play_told _ _ _ _ _ _ c.byte_of-across.ensures c.byte_of-down.ensures _ _ _ c.if-session-ne-SIZE.false _ c.play-replayed.ensures.unrefused _ _ _ c.play-replayed.ensures.events_value.0 c.play-replayed.ensures.events_value.1 c.write_session.ensures.bytes_after c.write_session.ensures.session_value c.if-replayed-ne0.false
+returns c = play_told _ _ _ _ _ _ c.byte_of-across.ensures c.byte_of-down.ensures _ _ _ c.if-session-ne-SIZE.false _ c.play-replayed.ensures.value _ _ _ c.play-replayed.ensures.sheet_after c.play-replayed.ensures.answers_after c.write_session.ensures.bytes_after c.write_session.ensures.session_value c.if-replayed-ne0.false

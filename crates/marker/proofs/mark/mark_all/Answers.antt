@@ -18,10 +18,10 @@ pub returns-then-not-fine : goal.returns-then-not-fine
 returns-then-not-fine c = let a = c.args in
     let l = c.loop-there in
     let more = ltb-true l.i (length a.key.now / 3) (sym l.invariant.1.1.1.1 ∙ c.loop-there-test.true) in
-    stopped a.table.now a.sheet.now a.key.now (sym (stops_here _ _ _ _ _ _ _ more c.question_at-q.ensures c.take_out-number.ensures.value (sym c.fits2.ensures ∙ c.if-not-fine.true)) ∙ l.invariant.0)
+    stopped a.table.now a.sheet.now a.key.now (sym (stops_here _ _ _ _ _ _ _ more c.question_at-q.ensures c.take_out-number.ensures.value (sym c.fits-fine.ensures ∙ c.if-not-fine.true)) ∙ l.invariant.0)
 
 pub judge-requires : goal.judge-requires
-judge-requires c = (fits_open _ _ (sym c.fits2.ensures ∙ c.if-not-fine.false)).0
+judge-requires c = (fits_open _ _ (sym c.fits-fine.ensures ∙ c.if-not-fine.false)).0
 
 pub overflow_add-i : goal.overflow_add-i
 overflow_add-i c = let a = c.args in
@@ -39,7 +39,7 @@ pub loop-there-preserved : goal.loop-there-preserved
 loop-there-preserved c = let a = c.args in
     let l = c.loop-there in
     let more = ltb-true l.i (length a.key.now / 3) (sym l.invariant.1.1.1.1 ∙ c.loop-there-test.true) in
-    let fine = sym c.fits2.ensures ∙ c.if-not-fine.false in (
+    let fine = sym c.fits-fine.ensures ∙ c.if-not-fine.false in (
       sym (goes_on _ _ _ _ _ _ _ more c.question_at-q.ensures c.take_out-number.ensures.value fine c.take_out-number.ensures.table_after c.judge.ensures c.with-tally.ensures) ∙ l.invariant.0,
       (
         room_left _ a.sheet.now _ _ _ _ _ more c.question_at-q.ensures c.take_out-number.ensures.value fine c.take_out-number.ensures.table_after c.judge.ensures c.with-tally.ensures 65280 l.invariant.1.0,

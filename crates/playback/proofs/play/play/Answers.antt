@@ -18,4 +18,4 @@ pub play_events-last-requires : goal.play_events-last-requires
 play_events-last-requires c = record { unrefused = begins c.args.image.now c.args.sheet.now c.args.columns c.args.lines c.args.recorded.now c.args.answers.now _ c.check_listed-checked.ensures c.if-checked-ne0.false _ _ c.«open».ensures.0 c.«open».ensures.1 c.if-opened-ne0.false; events_value = events_known c.args.image.now c.args.sheet.now c.args.columns c.args.lines c.args.recorded.now c.args.answers.now _ c.check_listed-checked.ensures c.if-checked-ne0.false _ _ c.«open».ensures.0 c.«open».ensures.1 c.if-opened-ne0.false }
 
 pub returns : goal.returns
-returns c = all_played _ _ _ _ _ _ _ c.check_listed-checked.ensures c.if-checked-ne0.false _ _ c.«open».ensures.0 c.«open».ensures.1 c.if-opened-ne0.false _ _ _ c.play_events-last.ensures.value c.play_events-last.ensures.sheet_after.0 c.play_events-last.ensures.sheet_after.1
+returns c = all_played _ _ _ _ _ _ _ c.check_listed-checked.ensures c.if-checked-ne0.false _ _ c.«open».ensures.0 c.«open».ensures.1 c.if-opened-ne0.false _ _ _ c.play_events-last.ensures.value c.play_events-last.ensures.sheet_after c.play_events-last.ensures.answers_after
