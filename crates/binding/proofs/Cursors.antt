@@ -10,7 +10,7 @@ use Rattle.laws.specs.Choice.{◌and◌}
 use Rattle.laws.proofs.Cases.{and_l, and_r}
 use Rattle.acceptance.specs.Check.{refusal_of}
 use Rattle.acceptance.proofs.Acceptance.{accepted_exactly_when_well_formed}
-use Rattle.session.specs.Fits.{shape_fits, level_fits, levels_fit, tables_fit, session_fits}
+use Rattle.session.specs.Fits.{cursor_head, shape_fits, level_fits, levels_fit, tables_fit, session_fits}
 use Rattle.session.specs.declared.session.Level.{Level}
 use Rattle.session.specs.declared.session.Mode.{Mode}
 use Rattle.session.specs.declared.session.Mode.TheVariants as mode
@@ -28,7 +28,7 @@ short im extent h = ((accepted_exactly_when_well_formed im extent).0 h).prolog.m
 here_shown : (im : List ℕ) (lines t : ℕ) (ls : List Level) (here : Level) → levels_fit im lines t ls here ≡ true → here.cursor < here.first + (lines - 1)
 unfolding levels_fit level_fits
 here_shown im lines t [] here h = ltb-true _ _ (and_r _ _ (and_r _ _ (and_r _ _ h)))
-here_shown im lines t (l ∷ ls) here h = here_shown im lines _ ls here (and_r _ _ (and_r _ _ h))
+here_shown im lines t (l ∷ ls) here h = here_shown im lines (cursor_head im l).table.0 ls here (and_r _ _ (and_r _ _ h))
 
 cursor_below : (im : List ℕ) (s : Session) (m : Mode) → s.here.cursor < s.here.first + (s.lines - 1) → s.lines ≤ 4 → s.columns ≤ 20
     → cursor_number (cursor_in im s m) < 131072
