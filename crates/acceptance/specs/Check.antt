@@ -168,13 +168,15 @@ module _ (im : List ℕ) (extent most : ℕ) where
     -- the lines of a table from the nth on
     unfoldable pub on_lines : ℕ → ℕ → List ℕ → State → State
     on_lines n before [] s = s
-    on_lines n before (p ∷ ps) s = and_then (on_line n before p s) (on_lines (n + 1) p ps (on_line n before p s))
+    on_lines n before (p ∷ ps) s = and_then (on_line n before p s) (on_lines (n + 1) p ps
+        (on_line n before p s))
 
   -- the table at a place; so many levels are left, its own among them. R15: a table too deep is 6 if its
   -- title is not all there, else 8
   unfoldable pub on_table : ℕ → ℕ → State → State
   on_table zero t s = and_then (on_title t s) (with (on_title t s) (refused (on_title t s).progress 8))
-  on_table (suc left) t s = and_then (on_title t s) (on_lines (on_table left) 0 0 (lines_of im t) (on_title t s))
+  on_table (suc left) t s = and_then (on_title t s) (on_lines (on_table left) 0 0 (lines_of im t)
+      (on_title t s))
 
 abbrev pub start : State
 start = state (record { refusal = 0; at = 0; lines = 0; fields = 0 }) []

@@ -1,6 +1,7 @@
 -- What is at a place of an image by section 7: texts, padding, and the components of a line, each with the
 -- field that it is. Places are offsets from the image's first byte; `end` is the place after a structure.
-use Rattle.std.specs.Prelude.{ℕ, suc, ◌+◌, ◌/◌, ◌%◌, ◌^◌, ◌≤◌, ◌<◌, max, true, false, ◌≡◌, List, [], ◌∷◌, ◌++◌, length}
+use Rattle.std.specs.Prelude.{ℕ, suc, ◌+◌, ◌/◌, ◌%◌, ◌^◌, ◌≤◌, ◌<◌, max, true, false, ◌≡◌, List, [], ◌∷◌}
+use Rattle.std.specs.Prelude.{◌++◌, length}
 use Rattle.laws.specs.Bytes.{byte_at, word_at}
 use Rattle.field.specs.Formats.{format_of}
 use Rattle.field.specs.Profiles.{profile_of}

@@ -58,12 +58,14 @@ line_found im t k = found_if (k <? line_count im t) (line_at im t k)
 -- the first editable one of some components
 unfoldable pub first_editable : List ℕ → List ℕ → Found
 first_editable im [] = Nothing
-first_editable im (p ∷ ps) = if (component_at im p).editable then At (record { 0 = p }) else first_editable im ps
+first_editable im (p ∷ ps) = if (component_at im p).editable then At (record { 0 = p })
+    else first_editable im ps
 
 -- the editable component that follows one on its line; none follows the last
 unfoldable pub next_editable : List ℕ → ℕ → Found
 next_editable im p =
-    if (component_at im p).last then Nothing else first_editable im (rest_of_line im (component_at im p).next.0)
+    if (component_at im p).last then Nothing
+    else first_editable im (rest_of_line im (component_at im p).next.0)
 
 -- a place is one of a list
 unfoldable pub is_in : ℕ → List ℕ → Bool
@@ -80,7 +82,8 @@ module _ (im : List ℕ) where
   module _ (submenu : ℕ → List ℕ) where
     -- the components that are reached at a line: its own, then those of its submenu
     unfoldable pub line_reach : ℕ → List ℕ
-    line_reach p = components_of im p ++ (if (head_at im p).submenu then submenu (head_at im p).table.0 else [])
+    line_reach p = components_of im p ++ (if (head_at im p).submenu then submenu (head_at im p).table.0
+        else [])
 
     -- at lines, one after another
     unfoldable pub lines_reach : List ℕ → List ℕ

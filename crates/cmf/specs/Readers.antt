@@ -281,4 +281,5 @@ component_by im at code tag =
 
 unfoldable pub component_at : List ℕ → ℕ → Component
 component_at im at =
-    if at <? length im then component_by im at (byte_at im at % 32) (byte_at im at) else component_refused im at 6
+    if at <? length im then component_by im at (byte_at im at % 32) (byte_at im at)
+    else component_refused im at 6

@@ -121,6 +121,7 @@ format_sound f =
     record {
       bases = λ t s. absurd (base_known f t s);
       two = omega (arith, base_ge f);
+      sixteen = base_le f;
       signs = signs_le f;
       cells = omega (arith, signs_le f, digits_le f);
       room = top_fits f;
@@ -137,6 +138,7 @@ bits_sound n =
     record {
       bases = λ t s. refl;
       two = lit≤ tt;
+      sixteen = lit≤ tt;
       signs = lit≤ tt;
       cells = omega (arith, bits_le n);
       room = power_fits n;

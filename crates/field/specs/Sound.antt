@@ -6,6 +6,7 @@ use Rattle.field.specs.declared.numeral.Numeral.{Numeral}
 pub record Sound (n : Numeral) : Type 0 where
   pub bases : (n.base ≡ 10 → ⊥) → (n.base ≡ 16 → ⊥) → n.base ≡ 2
   pub two : 2 ≤ n.base
+  pub sixteen : n.base ≤ 16
   pub signs : n.signs ≤ 1
   pub cells : n.signs + n.digits ≤ 32
   pub room : n.base ^ n.digits ≤ 4294967296

@@ -8,7 +8,7 @@ use crate::value::Value;
 use crate::work::in_range;
 
 // How many decimal digits a number of at most five has.
-pub fn digit_count(x: u32) -> u8
+pub fn digit_count(x: u64) -> u8
     ensures { (result ≡ digit_count x) × (result ≤ 5) }
 {
     if x < 10 {
@@ -31,9 +31,9 @@ pub fn counted_cells(x: u16) -> u8
     ensures { result ≡ counted_cells x }
 {
     if x < 32768 {
-        return 1 + digit_count((32768 - x) as u32);
+        return 1 + digit_count((32768 - x) as u64);
     }
-    digit_count((x - 32768) as u32)
+    digit_count((x - 32768) as u64)
 }
 
 fn step_fits(s: CounterSettings) -> bool

@@ -25,7 +25,8 @@ items_in Trigger = 0
 unfoldable pub text_refusal : List ℕ → ℕ → ℕ → ℕ → ℕ
 text_refusal im extent place item =
     refusal_of im extent
-    before (14 unless (is_in place (field_places im) and (item <? items_in (component_at im place).field.kind)))
+    before (14 unless (is_in place (field_places im)
+    and (item <? items_in (component_at im place).field.kind)))
 
 -- a refusal, or the place of a text's first byte and how many there are
 abbrev pub text_span : ℕ → ℕ → ℕ → TextPlace

@@ -1,5 +1,6 @@
 -- The picture (01, Picture), row by row.
-use Rattle.std.specs.Prelude.{ℕ, zero, suc, ◌+◌, ◌-◌, ◌*◌, ◌/◌, ◌%◌, Bool, false, List, [], ◌∷◌, ◌++◌, length, replicate}
+use Rattle.std.specs.Prelude.{ℕ, zero, suc, ◌+◌, ◌-◌, ◌*◌, ◌/◌, ◌%◌, Bool, false, List, [], ◌∷◌, ◌++◌}
+use Rattle.std.specs.Prelude.{length, replicate}
 use Rattle.laws.specs.Choice.{if◌then◌else◌, ◌=?◌, ◌<?◌, ◌≤?◌}
 use Rattle.laws.specs.Bytes.{byte_at}
 use Rattle.laws.specs.Overwrite.{fit}

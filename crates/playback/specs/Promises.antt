@@ -75,7 +75,8 @@ pub record PlaybackPromises (im : List ℕ) : Type 0 where
   -- (by definition) a refusal leaves sheet and list
   pub refused : (sheet : List ℕ) (columns lines : ℕ) (rec list : List ℕ)
       → play_refusal im (length sheet) columns lines rec (length list) ≢ 0
-      → Leaves im sheet columns lines rec list (play_refusal im (length sheet) columns lines rec (length list))
+      → Leaves im sheet columns lines rec list (play_refusal im (length sheet) columns lines rec
+      (length list))
   -- any other replay is Open and then the record's events
   pub replays : (sheet : List ℕ) (columns lines : ℕ) (rec list : List ℕ)
       → play_refusal im (length sheet) columns lines rec (length list) ≡ 0

@@ -21,7 +21,8 @@ list_refusal rec room = record_refusal rec before (25 unless (length (events_of 
 
 -- then Open's own
 unfoldable pub play_refusal : List ℕ → ℕ → ℕ → ℕ → List ℕ → ℕ → ℕ
-play_refusal im extent columns lines rec room = list_refusal rec room before open_refusal im extent columns lines
+play_refusal im extent columns lines rec room =
+    list_refusal rec room before open_refusal im extent columns lines
 
 -- ---- what is played
 

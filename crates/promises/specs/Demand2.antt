@@ -46,7 +46,8 @@ pub record Accepts (im : List ℕ) : Type 0 where
   pub accepted : (extent : ℕ) → (refusal_of im extent ≡ 0) ↔ WellFormed im extent
   -- (theorem) and Open accepts it with every shape that is allowed, and with no other
   pub open_accepts : (extent columns lines : ℕ)
-      → (open_refusal im extent columns lines ≡ 0) ↔ ((shape_fits columns lines ≡ true) × WellFormed im extent)
+      → (open_refusal im extent columns lines ≡ 0) ↔ ((shape_fits columns lines ≡ true)
+      × WellFormed im extent)
   -- (theorem) its fields are those at the places that the walk reaches, in the walk's order
   pub listed : (extent : ℕ) (w : WellFormed im extent) → w.fields ≡ fields_of im
   -- where they lie, and their defaults
@@ -128,7 +129,8 @@ pub record ProtectedLines (im sheet : List ℕ) (columns lines : ℕ) (es : List
   pub each_above : (k : ℕ) →
       let s = (played im (begun_with im sheet columns lines) es).session in
       let l = get_or s.above k no_level in
-      k < s.outer → (cursor_head im l).protected ≡ true → Unlocked im (begun_with im sheet columns lines) es k l
+      k < s.outer → (cursor_head im l).protected ≡ true
+      → Unlocked im (begun_with im sheet columns lines) es k l
 
 -- an image is accepted exactly when it is well formed, and then the calls go by 01's rules
 pub record Demand2 (im : List ℕ) : Type 0 where

@@ -5,7 +5,8 @@ use Rattle.std.specs.Prelude.{ℕ, ◌≡◌, true, take}
 use mathlib.Core.List.{List, [], ◌∷◌, ◌++◌, Memᴰ}
 use Rattle.laws.specs.Choice.{if◌then◌else◌, ◌=?◌}
 use Rattle.cmf.specs.Layouts.{Component, code, edit_bit, last_bit}
-use Rattle.cmf.specs.Grammar.{is_last, has_submenu, has_password, next_line, submenu_table, password_at, Password}
+use Rattle.cmf.specs.Grammar.{is_last, has_submenu, has_password, next_line, submenu_table, password_at}
+use Rattle.cmf.specs.Grammar.{Password}
 use Rattle.cmf.specs.Readers.{even_from, head_at, component_at}
 use Rattle.cmf.specs.Places.{components_of, held_by}
 use Rattle.session.specs.Fits.{cursor_line}

@@ -1,7 +1,8 @@
 -- Nobody has to believe this file: the contract of `refusal_of` speaks of the check alone. What the quick
 -- walk knows where it has no doubt: how far the walk of the check would have come, with marks on the sheet's
 -- bytes in place of the fields.
-use Rattle.std.specs.Prelude.{ℕ, ◌+◌, ◌-◌, ◌*◌, ◌/◌, ◌%◌, ◌^◌, ◌≤◌, ◌<◌, ◌≡◌, true, false, List, [], ◌∷◌, length, get_or}
+use Rattle.std.specs.Prelude.{ℕ, ◌+◌, ◌-◌, ◌*◌, ◌/◌, ◌%◌, ◌^◌, ◌≤◌, ◌<◌, ◌≡◌, true, false, List, [], ◌∷◌}
+use Rattle.std.specs.Prelude.{length, get_or}
 use Rattle.laws.specs.Bytes.{word_at}
 use Rattle.field.specs.Sheet.{size_of}
 use Rattle.field.specs.declared.record.Field.{Field}
@@ -133,7 +134,8 @@ pub record Along (im : List ℕ) (extent below first : ℕ) (u : Tally) (old : L
   pub head : Placed im s.n before s.line.0 from end
   pub within : s.done ≡ false → AmongParts im extent (headed from end) s.tally marks new
   pub through : s.done ≡ true → Reaches extent
-      (on_components im extent most_fields (components_from im (length im + 1) (even_from end))) (headed from end)
+      (on_components im extent most_fields (components_from im (length im + 1) (even_from end)))
+      (headed from end)
       s.tally marks new
 
 -- a position within a line: its components are not all passed, its head and the position itself are in the
@@ -168,8 +170,10 @@ pub record Leaves (im : List ℕ) (extent below line : ℕ) (w r : Tally) (mid n
   pub leave :
       {n before end : ℕ} {from : Tally} {old : List ℕ} → n < most_lines_of_table
       → Placed im n before line from end →
-      Reaches extent (on_components im extent most_fields (components_from im (length im + 1) (even_from end)))
+      Reaches extent (on_components im extent most_fields (components_from im (length im + 1)
+      (even_from end)))
       (headed from end) w old mid →
-      Reaches extent (on_line im extent most_fields (on_table im extent most_fields below) n before line) from r
+      Reaches extent (on_line im extent most_fields
+      (on_table im extent most_fields below) n before line) from r
       old
       new

@@ -2,7 +2,8 @@
 ghost use Rattle.std.specs.Prelude.{◌≡◌, true, ℕ, ◌+◌, ◌%◌, ◌<◌, ◌≤◌, length};
 ghost use Rattle.laws.specs.Bytes.{word_at};
 ghost use Rattle.cmf.specs.Layouts.{Aligned, Text};
-ghost use Rattle.cmf.specs.Grammar.{Digits, Head, is_last, password_at, has_submenu, next_line, submenu_table};
+ghost use Rattle.cmf.specs.Grammar.{Digits, Head, is_last, password_at, has_submenu, next_line};
+ghost use Rattle.cmf.specs.Grammar.{submenu_table};
 ghost use Rattle.quick.specs.Accept.{Linked, Placed};
 
 use crate::tally::Tally;

@@ -76,7 +76,8 @@ fn is_padded_to_even(image: &[u8], at: usize) -> bool
 fn next_plain(image: &[u8], n: usize, line: usize, w: Tally) -> Position
     requires { password_at image.now line ≤ length image.now }
     ensures { (result.done ≡ false → Next image.now n line w result)
-        × (result.done ≡ true → result ≡ record { tally = w; n = n; line = record { 0 = line }; done = true }) }
+        × (result.done ≡ true
+        → result ≡ record { tally = w; n = n; line = record { 0 = line }; done = true }) }
 {
     let past = Position {
         tally: w,

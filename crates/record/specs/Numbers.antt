@@ -1,6 +1,7 @@
 -- 02, No. 2: numbers in groups of seven bits. What it is for bytes to be a number, how a number is written,
 -- and how numbers are read.
-use Rattle.std.specs.Prelude.{ℕ, zero, suc, ◌+◌, ◌-◌, ◌*◌, ◌/◌, ◌%◌, ◌≤◌, ◌<◌, ◌≡◌, List, [], ◌∷◌, ◌++◌, length, get_or}
+use Rattle.std.specs.Prelude.{ℕ, zero, suc, ◌+◌, ◌-◌, ◌*◌, ◌/◌, ◌%◌, ◌≤◌, ◌<◌, ◌≡◌, List, [], ◌∷◌, ◌++◌}
+use Rattle.std.specs.Prelude.{length, get_or}
 use Rattle.laws.specs.Choice.{if◌then◌else◌, ◌=?◌, ◌<?◌, ◌≤?◌}
 use Rattle.laws.specs.Bytes.{byte_at}
 use Rattle.laws.specs.Digits.{number_from}
@@ -70,7 +71,8 @@ third_at s at =
     if length s ≤? (at + 2) then Broken
     else if 128 ≤? byte_at s (at + 2) then Broken
     else if 131 <? byte_at s at then Broken
-    else Number ((byte_at s at - 128) * 16384 + (byte_at s (at + 1) - 128) * 128 + byte_at s (at + 2)) (at + 3)
+    else Number ((byte_at s at - 128) * 16384 + (byte_at s (at + 1) - 128) * 128 + byte_at s (at + 2))
+    (at + 3)
 
 -- the second group, where the first has the top bit and is not 0
 abbrev pub second_at : List ℕ → ℕ → Read

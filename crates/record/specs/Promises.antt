@@ -1,7 +1,8 @@
 -- What is promised of records, over the definitions that the contracts of `record`, `check_record`,
 -- `write_number` and `read_number` cite. `proofs/Promises` proves it. Each clause has a mark, as in
 -- `promises`: (theorem), or (by definition).
-use Rattle.std.specs.Prelude.{ℕ, ◌+◌, ◌≤◌, ◌<◌, ◌≡◌, ◌≢◌, ◌↔◌, true, false, List, [], ◌∷◌, ◌++◌, length, take, drop}
+use Rattle.std.specs.Prelude.{ℕ, ◌+◌, ◌≤◌, ◌<◌, ◌≡◌, ◌≢◌, ◌↔◌, true, false, List, [], ◌∷◌, ◌++◌, length}
+use Rattle.std.specs.Prelude.{take, drop}
 use Rattle.laws.specs.Choice.{if◌then◌else◌, ◌≤?◌}
 use Rattle.laws.specs.Bytes.{byte_at}
 use Rattle.laws.specs.Parts.{put_at}
@@ -82,7 +83,8 @@ pub record RecordPromises : Type 0 where
   -- (theorem) each is an event, whatever the bytes are
   pub known : (s : List ℕ) → record_refusal s ≡ 0 → are_events (events_of s) ≡ true
   -- (theorem) they are the record's bytes from a place on, since an event is one group
-  pub part : (s : List ℕ) → record_refusal s ≡ 0 → (start_of s ≤ length s) × (drop (start_of s) s ≡ events_of s)
+  pub part : (s : List ℕ) → record_refusal s ≡ 0 → (start_of s ≤ length s)
+      × (drop (start_of s) s ≡ events_of s)
   -- (by definition) R46: the order of what a recording is refused for
   pub order : (es : List ℕ) (room : ℕ)
       → recording_refusal es room

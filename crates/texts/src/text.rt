@@ -139,13 +139,13 @@ fn put_counter(row: &mut [u8], at: usize, width: u8, x: u32) -> usize
     let w = width as usize;
     if x < 32768 {
         let size = 32768 - x;
-        let n = digit_count(size);
+        let n = digit_count(size as u64);
         let sign = repeat(&mut *row, at, BLANK, less(w, 1 + n as usize));
         let first = put(&mut *row, sign, b'-');
         return put_decimal(&mut *row, first, n, size);
     }
     let size = x - 32768;
-    let n = digit_count(size);
+    let n = digit_count(size as u64);
     let first = repeat(&mut *row, at, BLANK, less(w, n as usize));
     put_decimal(&mut *row, first, n, size)
 }
