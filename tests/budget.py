@@ -1,23 +1,31 @@
-"""What the must-fail edits cost: `rt prove | python3 tests/budget.py` prints, over all crates, the number of edits times
-the crate's seconds, and the five dearest crates. An edit proves its crate again, so that is what they add to the gate."""
+"""What the must-fail edits cost: `python3 tests/budget.py [CRATE ..]` tries the edits of all crates, or of these, once more, a crate
+at a time (`rt must-fail CRATE --anew`), and prints the processor seconds of the five dearest crates and of all. That is what the edits
+add to a gate that has nothing kept: for each crate a check from nothing, and then each edit's. It takes as long as that."""
 import pathlib
-import re
+import resource
+import subprocess
 import sys
 
-BUDGET = 1800                                   # processor seconds, on a machine where `rt prove` takes some 550
+BUDGET = 1800                                   # processor seconds; fixed with an older kit, where an edit proved its whole crate again
 
-seconds = {name: int(took) for name, took in re.findall(r'^rt: (\w+) proved \((\d+) s\)', sys.stdin.read(), re.M)}
-crates = pathlib.Path(__file__).resolve().parent.parent / 'crates'
-rows = []
-for folder in sorted(crates.iterdir()):
-    edits = len(list((folder / 'must-fail').glob('*.edit')))
-    if edits and folder.name not in seconds:
-        sys.exit(f'{folder.name}: no line "rt: {folder.name} proved (N s)" on standard input; run `rt prove`')
-    if edits:
-        rows.append((edits * seconds[folder.name], folder.name, edits, seconds[folder.name]))
-rows.sort(reverse=True)
-for total, name, edits, each in rows[:5]:
-    print(f'{name:14} {edits:3} edits x {each:3} s = {total:4} s')
-total = sum(row[0] for row in rows)
-print(f'{"all":14} {sum(row[2] for row in rows):3} edits         = {total:4} s of {BUDGET}')
+ROOT = pathlib.Path(__file__).resolve().parent.parent
+
+
+def cost(name):
+    """The processor seconds of the edits of a crate, each of which must be refused."""
+    before = resource.getrusage(resource.RUSAGE_CHILDREN)
+    tried = subprocess.run(['rt', 'must-fail', name, '--anew'], cwd=ROOT, stdout=subprocess.PIPE, stderr=subprocess.STDOUT, text=True)
+    after = resource.getrusage(resource.RUSAGE_CHILDREN)
+    if tried.returncode:
+        sys.exit(f'{tried.stdout}{name}: not every edit was refused')
+    return round(after.ru_utime + after.ru_stime - before.ru_utime - before.ru_stime)
+
+
+edits = {folder.name: len(list((folder / 'must-fail').glob('*.edit'))) for folder in sorted((ROOT / 'crates').iterdir())}
+names = sys.argv[1:] or [name for name, count in edits.items() if count]
+rows = sorted(((cost(name), name, edits[name]) for name in names), reverse=True)
+for seconds, name, count in rows[:5]:
+    print(f'{name:14} {count:3} edits: {seconds:4} s')
+total = sum(seconds for seconds, *_ in rows)
+print(f'{"all":14} {sum(count for *_, count in rows):3} edits: {total:4} s of {BUDGET}')
 sys.exit(total > BUDGET)

@@ -1,4 +1,4 @@
-"""No division but by powers of two: `python3 tests/no_division.py`, after `rt staticlib binding`. It says so of the source of
+"""No division but by powers of two: `python3 tests/no_division.py`, after `tools/library`. It says so of the source of
 every crate of the library and of the programs, contracts apart, and of the built library: no divide instruction, no call of
 another object that could divide, and no multiplication by a constant, which is how a compiler divides by one. (One so small that
 it is made of additions alone is not seen.)"""
@@ -19,9 +19,17 @@ def blank(found):
 
 
 def code(text):
-    """A source without comments, ghost lines, characters and strings, and what stands in the braces of a contract."""
-    text = re.sub(r'"(\\.|[^"\\])*"|\'(\\.|[^\'\\])\'|//.*|^ghost use.*', blank, text, flags=re.M)
-    return re.sub(r'\b(requires|ensures) \{[^⌝]*⌝ \}', blank, text)
+    """A source without comments, imports of ghosts, characters and strings, and what stands in the braces of a contract."""
+    text = re.sub(r'"(\\.|[^"\\])*"|\'(\\.|[^\'\\])\'|//.*|^\s*ghost use[^;]*;', blank, text, flags=re.M)
+    out, at = '', 0
+    while clause := re.compile(r'\b(requires|ensures)( \*)?( \w+)? \{').search(text, at):
+        end, depth = clause.end(), 1
+        while depth:
+            depth += {'{': 1, '}': -1}.get(text[end], 0)
+            end += 1
+        out += text[at:clause.start()] + '\n' * text.count('\n', clause.start(), end)
+        at = end
+    return out + text[at:]
 
 
 def in_source(path):
