@@ -1,5 +1,5 @@
 /* A short sitting as firmware would play it: open, ENTER, RIGHT, ENTER on the option of the menu, with the picture after each event.
- * In the repository's folder, once `rt staticlib binding` has written the library:
+ * In the repository's folder, once `tools/library` has built the library:
  *   gcc -Iinclude examples/firmware.c target/staticlib/libbinding.a -o firmware && ./firmware
  */
 #include <stdio.h>

@@ -1,4 +1,4 @@
-/* The desk's calls for C, of the same library as handset.h: target/staticlib/libbinding.a (`rt staticlib binding`).
+/* The desk's calls for C, of the same library as handset.h: target/staticlib/libbinding.a (`tools/library` builds it).
  *
  * What handset.h says of buffers holds here too: a buffer is a pointer and how many it has of what it points to, none may be null, and
  * those of one call must not overlap where one of them is written. An answer below HANDSET_REFUSED is no refusal. A refused call

@@ -1,6 +1,6 @@
 /* The menu executor for C: four calls over an image, a sheet and a session that the caller keeps.
  *
- * The library is target/staticlib/libbinding.a (`rt staticlib binding`). It keeps no memory between calls and asks for none. A buffer
+ * The library is target/staticlib/libbinding.a (`tools/library` builds it). It keeps no memory between calls and asks for none. A buffer
  * is a pointer and a length; size_t has 64 bits. The buffers of one call must not overlap where one of them is written, and no pointer may be
  * null, even where the length is 0.
  *
