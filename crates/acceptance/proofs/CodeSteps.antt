@@ -17,7 +17,7 @@ use Rattle.cmf.specs.declared.title.Title.{Title}
 use Rattle.cmf.specs.declared.head.Head.{Head}
 use Rattle.cmf.specs.declared.component.Component.{Component}
 use Rattle.acceptance.specs.Check.{State, state, fine, refused, past_line, and_then, take_title, count_line, take_line, apart, apart_from, take_component, on_component, on_components, on_head, on_title, on_submenu, on_body, on_line, on_lines, on_table}
-use Rattle.acceptance.specs.Index.{entry, capacity, entry_at, listed, with_entry, seen}
+use Rattle.acceptance.specs.Index.{capacity, entry_at, listed, with_entry, seen}
 use Rattle.acceptance.specs.declared.index.Entry.{Entry}
 use Rattle.acceptance.specs.declared.progress.Progress.{Progress}
 

@@ -7,7 +7,7 @@ use mathlib.Core.List.{List, [], ◌∷◌, map}
 use native.Mathlib.Omega.{arith}
 use lib.ListN.{length}
 use borrow.Author.Tests.{eqb-true, ltb-true, ltb-false}
-use Rattle.laws.specs.Choice.{if◌then◌else◌, ◌and◌, ◌=?◌, ◌<?◌}
+use Rattle.laws.specs.Choice.{if◌then◌else◌, ◌=?◌, ◌<?◌}
 use Rattle.laws.specs.Bytes.{byte_at}
 use Rattle.laws.specs.Parts.{part_at}
 use Rattle.laws.proofs.Cases.{if_ind, by_test, if_lt, if_ge, and_l, and_r}

@@ -1,6 +1,6 @@
 -- The executor's steps are lawful: each event is one of the six cases. An event that is not refused has tested that the image is accepted and
 -- that the session fits, and these facts are enough: nothing is carried from event to event.
-use Prim.Native.Nat.{ℕ, suc, ◌≤◌}
+use Prim.Native.Nat.{ℕ, suc}
 use mathlib.Core.Path.{◌≡◌, refl, sym, ap, ◌∙◌}
 use mathlib.Core.Logic.{◌≢◌, ◌⊎◌, inl, inr}
 use mathlib.Core.Bool.{Bool, true, false}
@@ -8,7 +8,7 @@ use mathlib.Core.List.{List, Memᴰ}
 use native.Mathlib.Omega.{arith}
 use lib.ListN.{length}
 use borrow.Author.Tests.{eqb-true, eqb-false, ltb-true, ne_eqb}
-use Rattle.laws.specs.Choice.{if◌then◌else◌, ◌and◌, ◌=?◌, ◌≤?◌}
+use Rattle.laws.specs.Choice.{if◌then◌else◌, ◌=?◌, ◌≤?◌}
 use Rattle.laws.proofs.Cases.{if_ind, if_true, if_false, by_test, and_l, and_r}
 use Rattle.field.specs.Profiles.{profile_of}
 use Rattle.field.specs.Values.{bytes_of}
@@ -35,7 +35,7 @@ use Rattle.acceptance.proofs.Fields.{others_apart, field_inside}
 use Rattle.acceptance.proofs.Reach.{part_of}
 use Rattle.session.specs.Events.{up, down, left, right, enter, second, last_digit_key}
 use Rattle.session.specs.Fits.{cursor_line, work_fits, visit_fits, mode_fits, session_fits}
-use Rattle.session.specs.Answers.{taken, flash, with_idle, browsing, is_flash, is_refused}
+use Rattle.session.specs.Answers.{taken, flash, with_idle, is_flash, is_refused}
 use Rattle.session.specs.Seconds.{browse_second, entry_second}
 use Rattle.session.specs.Browsing.{up_step, down_step, left_step, descended, right_step, visit_at, enter_at, enter_step, browse_step}
 use Rattle.session.specs.Passwords.{last_digit, digit_step, entry_step}
@@ -49,7 +49,7 @@ use Rattle.session.specs.declared.answer.Answer.TheVariants as answer
 use Rattle.session.specs.declared.answer.Stepped.{Stepped}
 use Rattle.handset.specs.Event.{event_refusal, refused_with, event_step, event_sheet}
 use Rattle.handset.proofs.Stepping.{refused_step, refused_sheet, stepped, stepped_sheet, EventGranted, event_granted}
-use Rattle.journal.specs.Journal.{answered, on, ignored, counts}
+use Rattle.journal.specs.Journal.{answered, ignored, counts}
 use Rattle.journal.specs.Rules.{field_at, opener_of, out_of, pressed_out, rules_of, IsField}
 use Rattle.journal.specs.Sitting.{Sitting, sitting, next, answer_to}
 use Rattle.journal.proofs.Components.{own_place, editable_holds, in_member, EditableIn, by_found, first_editable_in, next_editable_in}

@@ -8,7 +8,6 @@ use mathlib.Core.List.Memᴰ
 use mathlib.Core.List.{List, [], ◌∷◌, ◌++◌, Memᴰ}
 use lib.ListN.{take}
 use borrow.Author.Tests.{eqb-true, ltb-true}
-use Rattle.laws.specs.Choice.{◌and◌}
 use Rattle.laws.proofs.Cases.{and_l, and_r}
 use Rattle.field.specs.declared.record.Field.{Field}
 use Rattle.cmf.specs.Limits.{prolog_bytes, deepest_table}

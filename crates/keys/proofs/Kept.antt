@@ -1,13 +1,12 @@
 -- Every key keeps a legal working copy legal: it sets the chosen cell within its ends, or chooses a cell that exists.
-use Prim.Native.Nat.{ℕ, ◌+◌, ◌-◌, ◌≤◌, ◌<◌}
+use Prim.Native.Nat.{ℕ, ◌+◌, ◌-◌, ◌<◌}
 use mathlib.Core.Path.{◌≡◌}
 use mathlib.Core.Bool.{Bool, true, false}
 use native.Mathlib.Omega.{arith}
-use lib.ListN.{set}
 use borrow.Author.Tests.{ltb-true, leb-true}
 use Rattle.laws.specs.Choice.{if◌then◌else◌, ◌<?◌, ◌≤?◌}
 use Rattle.laws.proofs.Cases.{if_ind, and_l, and_r}
-use Rattle.field.specs.Profiles.{profile_of, cell_of, ends, digit}
+use Rattle.field.specs.Profiles.{profile_of, cell_of}
 use Rattle.keys.specs.Keys.{taken, next_part, with_chosen, choosing, chosen, raised, lowered, up_key, down_key, left_key, right_key, on_right, digit_key, part_after, capped, enter_key}
 use Rattle.field.specs.declared.kind.Kind.{Kind}
 use Rattle.field.specs.declared.profile.Cell.{Cell}

@@ -4,7 +4,7 @@ use mathlib.Core.Path.{◌≡◌, refl, sym, ◌∙◌}
 use mathlib.Core.Bool.{Bool, true, false}
 use mathlib.Core.List.{List}
 use borrow.Author.Tests.{ltb-true}
-use Rattle.laws.specs.Choice.{if◌then◌else◌, ◌and◌}
+use Rattle.laws.specs.Choice.{if◌then◌else◌}
 use Rattle.laws.proofs.Cases.{if_ind, and_r}
 use Rattle.field.specs.Profiles.{profile_of, cell_of}
 use Rattle.keys.specs.Keys.{part_after}

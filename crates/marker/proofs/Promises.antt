@@ -21,7 +21,6 @@ use Rattle.field.specs.declared.kind.Kind.TheVariants.{Integer, Counter, Time, D
 use Rattle.field.specs.declared.record.Field.{Field}
 use Rattle.cmf.specs.Places.{is_in, fields_of}
 use Rattle.acceptance.specs.Check.{refusal_of}
-use Rattle.handset.specs.Refusals.{◌before◌}
 use Rattle.handset.specs.Open.{open_refusal, open_sheet}
 use Rattle.promises.specs.Demand3.{Candidate, end, visits_at}
 use Rattle.promises.proofs.Promises.{demand_2, demand_3}

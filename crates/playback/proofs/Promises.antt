@@ -8,13 +8,13 @@ use mathlib.Core.List.{List, [], ◌∷◌, ◌++◌}
 use native.Mathlib.Omega.{arith}
 use lib.ListN.{length, take, drop}
 use borrow.Author.Tests.{le-leb, leb-true}
-use Rattle.laws.specs.Choice.{if◌then◌else◌, ◌and◌, ◌=?◌, ◌≤?◌}
+use Rattle.laws.specs.Choice.{if◌then◌else◌, ◌=?◌, ◌≤?◌}
 use Rattle.laws.specs.Overwrite.{over}
 use Rattle.laws.proofs.Cases.{if_eq, if_ne, and_l, and_r}
 use Rattle.laws.proofs.Frame.{put_fits}
 use Rattle.laws.proofs.Storing.{put_over}
 use Rattle.session.specs.Events.{second}
-use Rattle.handset.specs.Refusals.{◌before◌, ◌unless◌}
+use Rattle.handset.specs.Refusals.{◌before◌}
 use Rattle.handset.specs.Open.{open_refusal}
 use Rattle.handset.proofs.Ordering.{next_given, holding, tested_before, before_before, none_before, none_unless}
 use Rattle.journal.specs.Sitting.{Sitting, begun_with, next, played, answered_in}
@@ -23,7 +23,7 @@ use Rattle.promises.proofs.Promises as executor
 use Rattle.record.specs.Forms.{are_events, recording_refusal, recorded, recorded_in, record_refusal, events_of}
 use Rattle.record.proofs.Promises as records
 use Rattle.playback.specs.Replay.{list_refusal, play_refusal, numbers_in, play_answer, play_sheet, play_list}
-use Rattle.playback.specs.Promises.{NoneRefused, answers, Gives, Leaves, Replays, candidate, PlaybackPromises}
+use Rattle.playback.specs.Promises.{NoneRefused, Gives, Leaves, Replays, candidate, PlaybackPromises}
 
 -- ---- the answers
 

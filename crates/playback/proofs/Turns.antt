@@ -9,7 +9,7 @@ use native.Mathlib.Numerals.{add-one}
 use lib.ListN.{length, get_or, drop, drop_of_length-le}
 use lib.Seq.{drop-cons}
 use borrow.Author.Tests.{leb-true}
-use Rattle.laws.specs.Choice.{◌and◌, ◌≤?◌}
+use Rattle.laws.specs.Choice.{◌≤?◌}
 use Rattle.laws.specs.Overwrite.{over}
 use Rattle.laws.proofs.Cases.{and_l, and_r}
 use Rattle.laws.proofs.Overwriting.{over_nil, over_next}

@@ -13,7 +13,7 @@ use Rattle.acceptance.proofs.Reach.{LineIn, part_of}
 use Rattle.session.specs.Fits.{session_fits}
 use Rattle.session.specs.declared.session.Session.{Session}
 use Rattle.journal.proofs.Reached.{open_line_in}
-use Rattle.promises.specs.Lines.{HeadAgrees, ComponentAgrees, LineAgrees, CursorsAgree}
+use Rattle.promises.specs.Lines.{ComponentAgrees, LineAgrees, CursorsAgree}
 
 -- a test of a bit, of which both answers are known
 bit_told : (b : Bool) (n : ℕ) → (b ≡ true → n ≡ 1) → (b ≡ false → n ≡ 0) → b ≡ (n =? 1)

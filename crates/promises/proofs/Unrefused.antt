@@ -19,8 +19,6 @@ use Rattle.keys.specs.declared.press.Outcome.{Outcome}
 use Rattle.keys.specs.declared.press.Outcome.TheVariants as outcome
 use Rattle.cmf.specs.Grammar.{WellFormed}
 use Rattle.cmf.specs.Places.{fields_of}
-use Rattle.cmf.specs.declared.place.Found.{Found}
-use Rattle.cmf.specs.declared.place.Found.TheVariants.{At, Nothing}
 use Rattle.acceptance.specs.Check.{refusal_of}
 use Rattle.acceptance.proofs.Acceptance.{accepted_exactly_when_well_formed}
 use Rattle.session.specs.Session.{opened}

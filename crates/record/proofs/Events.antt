@@ -12,7 +12,6 @@ use Rattle.laws.specs.Choice.{◌and◌, ◌=?◌, ◌<?◌, ◌≤?◌}
 use Rattle.laws.specs.Bytes.{byte_at}
 use Rattle.laws.proofs.Cases.{if_ind, and_l, and_r}
 use Rattle.session.specs.Events.{second}
-use Rattle.handset.specs.Refusals.{◌before◌, ◌unless◌}
 use Rattle.handset.proofs.Ordering.{none_before, none_unless}
 use Rattle.record.specs.Numbers.{number_at, numbers_at, end_after}
 use Rattle.record.specs.Forms.{are_events, is_sequence, events_refusal, record_refusal, events_of, start_of}

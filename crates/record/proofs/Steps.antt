@@ -10,7 +10,7 @@ use borrow.Author.Tests.{eq-eqb, ne_eqb, eqb-true, eqb-false, le-leb, lt-leb}
 use Rattle.laws.specs.Choice.{if◌then◌else◌, ◌and◌, ◌=?◌, ◌≤?◌}
 use Rattle.laws.proofs.Cases.{by_test, if_eq, if_ne, and_l, and_true, and_false}
 use Rattle.session.specs.Events.{second}
-use Rattle.handset.specs.Refusals.{◌before◌, ◌unless◌}
+use Rattle.handset.specs.Refusals.{◌unless◌}
 use Rattle.handset.proofs.Ordering.{first_given, next_given, holding, failing, none_before, none_unless}
 use Rattle.record.specs.Numbers.{number_at, on_read, numbers_at, end_after}
 use Rattle.record.specs.Forms.{are_events, on_head, is_sequence, events_refusal, record_refusal, events_of, start_of, checked}

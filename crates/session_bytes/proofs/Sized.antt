@@ -1,7 +1,7 @@
 -- Every session that the code holds is sized: what owning one tells of it, field by field.
 use Prim.Native.Nat.{ℕ, zero, suc, ◌^◌, ◌<◌}
 use mathlib.Core.Path.{◌≡◌, refl}
-use mathlib.Core.List.{List, [], ◌∷◌, map}
+use mathlib.Core.List.{List, [], ◌∷◌}
 use mir.Val.{Val}
 use mir.Syntax.{Width, w8, w32}
 use mir.Val.{bits}
@@ -10,9 +10,8 @@ use denote.Shadow.{shadow}
 use denote.Plain.{UInt}
 use denote.Array.{each}
 use denote.Struct.Declared.{row}
-use denote.Struct.Field.{uint_field}
 use native.Mathlib.Omega.{arith}
-use lib.ListN.{length, get_or, length-map}
+use lib.ListN.{length, get_or}
 use Rattle.session.specs.declared.session.Level.{Level}
 use Rattle.session.specs.declared.session.Mode.{Mode}
 use Rattle.session.specs.declared.session.Mode.TheVariants as mode

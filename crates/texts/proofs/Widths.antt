@@ -4,9 +4,9 @@ use mathlib.Core.Path.{◌≡◌, refl, sym, ap, ◌∙◌}
 use mathlib.Core.Bool.{Bool, true, false}
 use mathlib.Core.List.{List, [], ◌∷◌}
 use native.Mathlib.Omega.{arith}
-use lib.ListN.{length, get_or, replicate, take, drop, length-append, length-replicate, length-take}
+use lib.ListN.{length, get_or, replicate, drop, length-append, length-replicate, length-take}
 use borrow.Author.Tests.{leb-true, eqb-true, eqb-false, ltb-true, ltb-false}
-use Rattle.laws.specs.Choice.{if◌then◌else◌, ◌and◌, ◌=?◌, ◌<?◌}
+use Rattle.laws.specs.Choice.{if◌then◌else◌, ◌=?◌, ◌<?◌}
 use Rattle.laws.proofs.Cases.{if_ind, by_test, if_lt, if_ge, if_max, and_l, and_r}
 use Rattle.field.specs.Formats.{signs_of, numeral_of, bits_of}
 use Rattle.field.specs.Profiles.{profile_of, cell_of, open_day, held_to}

@@ -1,5 +1,5 @@
 -- What a component shows (01, Fields and Picture): the text of each kind, cell by cell of the display.
-use Rattle.std.specs.Prelude.{ℕ, zero, suc, ◌+◌, ◌-◌, ◌/◌, ◌%◌, Bool, false, List, [], ◌∷◌, ◌++◌, length}
+use Rattle.std.specs.Prelude.{ℕ, zero, suc, ◌+◌, ◌-◌, ◌/◌, ◌%◌, Bool, List, [], ◌∷◌, ◌++◌, length}
 use Rattle.std.specs.Prelude.{get_or, replicate}
 use Rattle.laws.specs.Choice.{if◌then◌else◌, ◌=?◌, ◌<?◌}
 use Rattle.field.specs.Formats.{signs_of, digits_in, numeral_of, bits_in, bits_of}

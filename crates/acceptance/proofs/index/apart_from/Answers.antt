@@ -1,8 +1,6 @@
 -- Each return is the case of the definition that the tests on its path choose.
 use native.Mathlib.Omega.{arith}
 use mathlib.Core.Path.{◌≡◌, refl, sym}
-use borrow.Author.Tests.{not-true, not-false}
-use mathlib.Core.Bool.{true}
 use Rattle.acceptance.specs.Check.{apart_from}
 use Rattle.acceptance.specs.Index.{listed}
 use Rattle.laws.proofs.Cases.{via}

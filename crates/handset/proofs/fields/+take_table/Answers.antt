@@ -3,7 +3,6 @@ use mathlib.Core.Path.{refl, sym, ap, ◌∙◌}
 use lib.ListN.{length}
 use Rattle.laws.proofs.Cases.{if_true, if_false}
 use Rattle.handset.proofs.Filling.{gathered_same, lines_last, lines_next, lines_done, table_none, table_lines}
-use Prim.Native.Nat.{ℕ, ◌<◌}
 use Rattle.handset.proofs.fields.+take_table.Goals as goal
 use Rattle.handset.proofs.fields.+take_table.Goals.{then-h, else-h}
 

@@ -1,5 +1,4 @@
 -- What the callees ensure, put together.
-use borrow.Author.Tests.{not-true, not-false}
 use Rattle.laws.proofs.Cases.{via}
 use Rattle.handset.proofs.Opening.{bad_shape, bad_image, accepted}
 use Rattle.handset.proofs.open.open.Goals as goal

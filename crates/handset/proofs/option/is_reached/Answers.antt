@@ -1,7 +1,6 @@
 -- Each return is the case of the definition that the tests on its path choose.
 use native.Mathlib.Omega.{arith}
 use mathlib.Core.Path.{◌≡◌, refl, sym}
-use mathlib.Core.Bool.{false}
 use Rattle.cmf.specs.Places.{is_in}
 use Rattle.acceptance.specs.Index.{listed}
 use Rattle.handset.proofs.Finding.{found, still_none}

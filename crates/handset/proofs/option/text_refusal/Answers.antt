@@ -3,7 +3,7 @@ use Rattle.handset.specs.Refusals.{◌before◌, ◌unless◌}
 use Rattle.handset.proofs.Finding.{refusal_is, refusal_bad}
 use Rattle.acceptance.proofs.Acceptance.{index_read}
 use Rattle.laws.specs.Choice.{if◌then◌else◌, ◌and◌}
-use borrow.Author.Tests.{lt-ltb, le-ltb, eq-eqb, not-true, not-false}
+use borrow.Author.Tests.{lt-ltb, le-ltb, eq-eqb}
 use Rattle.laws.proofs.Cases.{via}
 use Rattle.handset.proofs.option.text_refusal.Goals as goal
 

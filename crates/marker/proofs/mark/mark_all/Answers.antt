@@ -4,7 +4,7 @@ use native.Mathlib.Omega.{arith}
 use Prim.Native.Nat.{◌/◌}
 use mathlib.Core.Path.{refl, sym, ap, ◌∙◌}
 use lib.ListN.{length}
-use borrow.Author.Tests.{not-true, not-false, ltb-true, ltb-false}
+use borrow.Author.Tests.{ltb-true, ltb-false}
 use Rattle.marker.specs.Table.{sum_in}
 use Rattle.marker.proofs.Marks.{fits_open, stopped, ends_here, none_over, some_over, stops_here, goes_on, room_left}
 use borrow.Author.Rules.{rules}

@@ -1,7 +1,6 @@
 -- The picture is written, or nothing is: the cases of the definition.
 use mathlib.Core.Path.{◌∙◌}
 use native.Mathlib.Omega.{arith}
-use borrow.Author.Tests.{not-true, not-false}
 use Rattle.laws.proofs.Cases.{via}
 use Rattle.picture.proofs.Filling.{area, no_shape, no_size, is_filled}
 use Rattle.picture.proofs.picture.put_picture.Goals as goal

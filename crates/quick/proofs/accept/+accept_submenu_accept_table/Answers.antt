@@ -5,7 +5,7 @@ use Rattle.acceptance.proofs.CameTo.{clash}
 use Rattle.quick.proofs.AcceptingTables.{going_start, table_reaches}
 use Rattle.quick.proofs.Positions.{head_fits, along_head, leaves_plain, leaves_deep, lines_more, lines_last}
 use native.Mathlib.Omega.{arith}
-use Prim.Native.Nat.{ℕ, suc, ◌+◌, ◌-◌, ◌<◌, ◌≤◌}
+use Prim.Native.Nat.{suc, ◌+◌, ◌-◌, ◌<◌, ◌≤◌}
 use Rattle.quick.proofs.accept.+accept_submenu_accept_table.Goals as goal
 
 pub accept_submenu-bounds-image-line : goal.accept_submenu-bounds-image-line

@@ -1,6 +1,5 @@
 -- The run, and one component of another kind, as long as the line goes on.
 use mathlib.Core.Path.{refl, ◌∙◌}
-use mathlib.Core.Bool.{false}
 use borrow.Author.Tests.{not-true, not-false}
 use Rattle.acceptance.proofs.CameTo.{clash}
 use Rattle.quick.proofs.Positions.{moves_none, moves_then}

@@ -1,7 +1,7 @@
 -- The padding before it, and the component.
 use mathlib.Core.Path.{refl}
 use mathlib.Core.List.{[]}
-use borrow.Author.Tests.{not-false, ltb-true}
+use borrow.Author.Tests.{ltb-true}
 use Rattle.laws.proofs.Cases.{via}
 use Rattle.quick.specs.Accept.{Claims}
 use Rattle.acceptance.proofs.CameTo.{clash}

@@ -1,7 +1,6 @@
 -- The three tests are those of its settings.
 use mathlib.Core.Path.{refl}
 use Rattle.quick.proofs.FixedFields.{counter_is}
-use borrow.Author.Tests.{not-false}
 use Rattle.laws.proofs.Cases.{via}
 use native.Mathlib.Omega.{arith}
 use Rattle.quick.proofs.fixed.counter_end.Goals as goal

@@ -1,5 +1,4 @@
 -- A head of the grammar where the walk is.
-use borrow.Author.Tests.{not-false}
 use native.Mathlib.Omega.{arith}
 use Rattle.quick.proofs.heads.accept_head.Goals as goal
 

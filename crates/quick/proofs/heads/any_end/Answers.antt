@@ -1,5 +1,4 @@
 -- The tests are those of the grammar.
-use borrow.Author.Tests.{not-false}
 use Rattle.quick.proofs.Pieces.{open_head, locked_head}
 use native.Mathlib.Omega.{arith}
 use Rattle.quick.proofs.heads.any_end.Goals as goal

@@ -1,6 +1,5 @@
 -- The tests leave a tag of 0 or 2.
 use mathlib.Core.Path.{refl, sym, ◌∙◌}
-use borrow.Author.Tests.{not-false}
 use Rattle.quick.proofs.Pieces.{plain_is}
 use native.Mathlib.Omega.{arith}
 use Rattle.quick.proofs.heads.plain_end.Goals as goal

@@ -1,6 +1,6 @@
 -- Position by position; the tally goes onward.
 use mathlib.Core.Path.{refl, ◌∙◌}
-use mathlib.Core.Bool.{true, false}
+use mathlib.Core.Bool.{true}
 use borrow.Author.Tests.{not-true, not-false}
 use Rattle.acceptance.proofs.CameTo.{clash}
 use Rattle.quick.proofs.Positions.{moves_none, moves_then, part_moves, part_onward, next_moves}

@@ -1,7 +1,6 @@
 -- The tests are those of the grammar.
 use Prim.Native.Nat.{◌+◌}
 use mathlib.Core.Path.{refl}
-use borrow.Author.Tests.{not-false}
 use Rattle.quick.proofs.Pieces.{switch_is}
 use native.Mathlib.Omega.{arith}
 use Rattle.quick.proofs.texts.switch_end.Goals as goal

@@ -2,7 +2,6 @@
 use mathlib.Core.Path.{sym, ◌∙◌}
 use native.Mathlib.Omega.{arith}
 use lib.ListN.{length}
-use borrow.Author.Tests.{not-true, not-false}
 use Rattle.record.proofs.Records.{too_many, bad_event, too_short, is_recorded}
 use Rattle.record.proofs.Groups.{count_most}
 use Rattle.record.proofs.recording.record.Goals as goal

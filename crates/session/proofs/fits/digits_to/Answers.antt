@@ -1,7 +1,6 @@
 -- Each return is the case of the definition that the tests on its path choose.
 use native.Mathlib.Omega.{arith}
 use mathlib.Core.Path.{◌≡◌, refl, sym}
-use mathlib.Core.Bool.{true}
 use Rattle.session.specs.Fits.{digits_to}
 use Rattle.session.proofs.Stepping.{digits_next, digits_bad}
 use Rattle.session.proofs.fits.digits_to.Goals as goal

@@ -1,7 +1,6 @@
 -- The loop: the digits up to here are right.
 use Prim.Native.Nat.{◌+◌}
 use mathlib.Core.Path.{◌≡◌, refl, sym}
-use mathlib.Core.Bool.{true}
 use native.Mathlib.Omega.{arith}
 use Rattle.session.specs.Passwords.{right_to}
 use Rattle.session.proofs.Entering.{right_next, right_bad, right_out}

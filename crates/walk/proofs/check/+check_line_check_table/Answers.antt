@@ -1,6 +1,6 @@
 -- Each return is a step law of CodeSteps; the loop's invariant: what is left of the table's lines, done to the present state, is the whole. The depth left falls.
 use native.Mathlib.Omega.{arith}
-use Prim.Native.Nat.{ℕ, ◌+◌, ◌/◌, ◌<◌}
+use Prim.Native.Nat.{ℕ, ◌/◌}
 use mathlib.Core.Path.{refl, sym, ap, ◌∙◌}
 use Rattle.acceptance.proofs.Indexed.{clean_head, clean_title}
 use Rattle.acceptance.proofs.CodeSteps.{line_stop, line_bad, line_plain, line_deep, lines_stop, lines_last, lines_next, lines_done, table_stop, table_deep, table_lines}

@@ -1,6 +1,6 @@
 -- Each return is the case of the definition that the tests on its path choose.
 use Rattle.laws.specs.Choice.{if◌then◌else◌}
-use borrow.Author.Tests.{eq-eqb, ne_eqb, not-true, not-false}
+use borrow.Author.Tests.{eq-eqb, ne_eqb}
 use Rattle.acceptance.specs.Check.{take_component}
 use Rattle.laws.proofs.Cases.{via}
 use Rattle.walk.proofs.check.take_component.Goals as goal

@@ -1,10 +1,10 @@
 -- Each return is the case of the definition that the tests on its path choose.
 use Prim.Native.Nat.{ℕ, ◌≤◌, ◌<◌}
 use mathlib.Core.Path.{◌≡◌}
-use mathlib.Core.Bool.{Bool, true, false, not}
+use mathlib.Core.Bool.{Bool, true, false}
 use native.Mathlib.Omega.{arith}
 use Rattle.laws.specs.Choice.{if◌then◌else◌, ◌<?◌}
-use borrow.Author.Tests.{ltb-true, ltb-false, le-leb, lt-leb, eq-eqb, ne_eqb, not-true, not-false}
+use borrow.Author.Tests.{ltb-true, ltb-false, le-leb, lt-leb, eq-eqb, ne_eqb}
 use Rattle.acceptance.specs.Check.{take_field}
 use Rattle.acceptance.specs.Index.{capacity}
 use Rattle.acceptance.proofs.CodeSteps.{listed_new}

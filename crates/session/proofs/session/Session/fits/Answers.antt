@@ -1,7 +1,6 @@
 -- Each return is the case of the definition that the tests on its path choose.
 use Rattle.cmf.proofs.Finding.{found_none, found_at}
 use mathlib.Core.Path.{◌∙◌}
-use borrow.Author.Tests.{not-true, not-false}
 use Rattle.laws.proofs.Cases.{via}
 use Rattle.session.specs.Fits.{tables_fit, mode_fits}
 use Rattle.session.proofs.Stepping.{fits_shape, fits_tables, fits_mode}
