@@ -6,7 +6,6 @@ use mathlib.Core.List.{List, [], ◌∷◌}
 use native.Mathlib.Omega.{arith}
 use lib.ListN.{length, take}
 use borrow.Author.Tests.{ltb-true, leb-true}
-use Rattle.laws.specs.Choice.{◌and◌}
 use Rattle.laws.proofs.Cases.{and_l, and_r}
 use Rattle.acceptance.specs.Check.{refusal_of}
 use Rattle.acceptance.proofs.Acceptance.{accepted_exactly_when_well_formed}

@@ -1,6 +1,5 @@
 -- The shape first, then image and sheet, then that the closed session never fits.
 use Rattle.laws.proofs.Cases.{via}
-use borrow.Author.Tests.{not-true, not-false}
 use mathlib.Core.Path.{◌∙◌, ap}
 use Rattle.handset.specs.Refusals.{session_refusal}
 use Rattle.session.specs.declared.session.Session.{Session}
