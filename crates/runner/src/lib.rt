@@ -101,12 +101,7 @@ fn print_cursor(rt: &impl Print, cursor: EditCursor) -> io::Result<()> {
     }
 }
 
-fn print_drawn(
-    rt: &impl Print,
-    refusal: u8,
-    cursor: EditCursor,
-    picture: &[u8],
-) -> io::Result<()> {
+fn print_drawn(rt: &impl Print, refusal: u8, cursor: EditCursor, picture: &[u8]) -> io::Result<()> {
     print!(rt; "{refusal} ")?;
     print_cursor(rt, cursor)?;
     print!(rt; " {}", Hex(picture))
@@ -224,11 +219,7 @@ fn run_case(rt: &(impl Input + Print), image: &mut [u8], sheet: &mut [u8]) -> io
 }
 
 // Runs the cases one by one; image and sheet are room for those of a case.
-pub fn run_cases(
-    rt: &(impl Input + Print),
-    image: &mut [u8],
-    sheet: &mut [u8],
-) -> io::Result<()> {
+pub fn run_cases(rt: &(impl Input + Print), image: &mut [u8], sheet: &mut [u8]) -> io::Result<()> {
     for _ in 0..MOST {
         let more = run_case(rt, &mut *image, &mut *sheet)?;
         if !more {
