@@ -105,7 +105,10 @@ fn end(
 // Says so where keys are left.
 fn say_rest(out: &impl Print, keys: &mut impl Read) -> io::Result<()> {
     match next_key(keys) {
-        Ok(Some(_)) => say(out, b"more than 65,536 bytes of keys: the rest is not played\n"),
+        Ok(Some(_)) => say(
+            out,
+            b"more than 65,536 bytes of keys: the rest is not played\n",
+        ),
         _ => Ok(()),
     }
 }

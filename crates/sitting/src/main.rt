@@ -13,11 +13,10 @@ use console::display::{COLUMNS, LINES};
 use console::file::{IMAGE_ROOM, Source, found_in, open_named, read_named};
 use console::words::say_refusal;
 use handset::open::open;
-use std::env;
 use std::env::Env;
 use std::fs::Files;
-use std::io;
 use std::io::Read;
+use std::{env, io};
 
 const USAGE: &str = "usage: sitting IMAGE [KEYS [RECORD]]\n";
 

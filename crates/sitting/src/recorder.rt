@@ -2,10 +2,9 @@
 use console::file::write_named;
 use console::words::say_refusal;
 use record::recording::{MAX_EVENTS, record};
-use std::env;
 use std::env::Env;
 use std::fs::Files;
-use std::io;
+use std::{env, io};
 
 // The third argument.
 const RECORD: usize = 3;
