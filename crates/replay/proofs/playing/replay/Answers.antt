@@ -7,9 +7,11 @@ use Rattle.replay.proofs.playing.replay.Goals as goal
 pub returns-clause-value : goal.returns-clause-value
 returns-clause-value c =
     let played = c.play-replayed.ensures in
-    (ended _ _ _ _ _ _ _ _ (length-replicate {A = ℕ} 16000 0) played.value played.sheet_after c.draw.ensures.picture_after).0
+    let last = c.draw.ensures.picture_after in
+    (ended _ _ _ _ _ _ _ _ (length-replicate {A = ℕ} 16000 0) played.value played.sheet_after last).0
 
 pub returns-clause-picture_after : goal.returns-clause-picture_after
 returns-clause-picture_after c =
     let played = c.play-replayed.ensures in
-    (ended _ _ _ _ _ _ _ _ (length-replicate {A = ℕ} 16000 0) played.value played.sheet_after c.draw.ensures.picture_after).1.1
+    let last = c.draw.ensures.picture_after in
+    (ended _ _ _ _ _ _ _ _ (length-replicate {A = ℕ} 16000 0) played.value played.sheet_after last).1.1
