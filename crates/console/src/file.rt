@@ -1,10 +1,16 @@
 // Files that the arguments name. What cannot be opened, read or written is said in one line on standard
 // error, unless it is read quietly.
 use cmf::image::Image;
-use libc::{STDERR_FILENO, STDIN_FILENO};
+use std::env::Env;
+use std::fs::Files;
+use std::io::Read;
+use std::{env, fs, io};
 
 // Room for an image: one byte more than it may have, so that a longer file is refused.
 pub const IMAGE_ROOM: usize = Image::MAX_BYTES + 1;
+
+// The most bytes of an argument that names a file.
+const MAX_NAME: usize = 4096;
 
 // Whether a file was read to its end, or as far as there was room, and how many bytes came.
 #[derive(Clone, Copy)]
@@ -13,39 +19,90 @@ pub struct Found {
     pub count: usize,
 }
 
-// Opens a file, and answers a descriptor; a negative number where it cannot.
-fn open(name: &[u8]) -> i32 {
-    let fd = os::open_read(name);
-    if fd < 0 {
-        os::fail(name);
-    }
-    fd
+// What bytes are read from one by one: standard input, or an opened file.
+#[derive(Drop)]
+pub enum Source<S, F> {
+    Standard(S),
+    File(F),
 }
 
-// A usage line is said where an argument is missing.
-fn say_usage(usage: &[u8]) {
-    io::write_all(STDERR_FILENO, usage);
+impl<S: Read, F: Read> Read for Source<S, F> {
+    fn read(&mut self, buffer: &mut [u8]) -> io::Result<usize> {
+        match self {
+            Source::Standard(standard) => standard.read(buffer),
+            Source::File(file) => file.read(buffer),
+        }
+    }
+}
+
+// The words for an error, without the number that std puts after those of the system.
+fn without_number(text: &str) -> &str {
+    match text.split_once(" (os error ") {
+        Some((words, _)) => words,
+        None => text,
+    }
+}
+
+// Says what failed, and why.
+pub fn fail(rt: &(impl Eprint + Alloc), what: &str, error: io::Error) -> io::Result<()> {
+    let text = format!(in rt.alloc(); "{error}")?;
+    eprintln!(rt; "{what}: {}", without_number(text.as_str()))
+}
+
+// The file name that argument i is; none where the argument is missing or too long.
+fn name_at(rt: &(impl Env + AllocGlobal), i: usize) -> io::Result<Option<String>> {
+    let name = env::args(rt)?.nth(i);
+    Ok(name.filter(|name| name.len() <= MAX_NAME))
+}
+
+// The same, and a usage line is said where there is none.
+fn needed_name(
+    rt: &(impl Env + Eprint + AllocGlobal),
+    i: usize,
+    usage: &str,
+) -> io::Result<Option<String>> {
+    let name = name_at(rt, i)?;
+    if name.is_none() {
+        eprint!(rt; "{usage}")?;
+    }
+    Ok(name)
 }
 
 // Opens a file; `-` is standard input.
-fn open_or_standard(name: &[u8]) -> i32 {
-    if name.len() == 1 {
-        if name[0] == b'-' {
-            return STDIN_FILENO;
+fn open_or_standard<R: Files + Input>(
+    rt: &R,
+    name: &str,
+) -> io::Result<Source<R::Reader, R::File>> {
+    if name == "-" {
+        return Ok(Source::Standard(rt.reader()));
+    }
+    Ok(Source::File(fs::open(rt, name)?))
+}
+
+// The same, and what fails is said.
+fn open<R: Files + Input + Eprint + Alloc>(
+    rt: &R,
+    name: &str,
+) -> io::Result<Option<Source<R::Reader, R::File>>> {
+    match open_or_standard(rt, name) {
+        Ok(source) => Ok(Some(source)),
+        Err(error) => {
+            fail(rt, name, error)?;
+            Ok(None)
         }
     }
-    open(name)
 }
 
 // Opens the file that argument i names; `-` is standard input.
-pub fn open_named(i: usize, usage: &[u8]) -> i32 {
-    let mut name = io::buffer();
-    let length = os::arg(i, &mut name);
-    if os::errno() != 0 {
-        say_usage(usage);
-        return -1;
+pub fn open_named<R: Files + Env + Input + Eprint + AllocGlobal>(
+    rt: &R,
+    i: usize,
+    usage: &str,
+) -> io::Result<Option<Source<R::Reader, R::File>>> {
+    match needed_name(rt, i, usage)? {
+        Some(name) => open(rt, name.as_str()),
+        None => Ok(None),
     }
-    open_or_standard(&name[..length])
 }
 
 // Nothing was read, or not all.
@@ -56,92 +113,88 @@ fn failed() -> Found {
     }
 }
 
-// Reads to the start of a buffer until it is full or the file ends.
-fn read_all(fd: i32, buffer: &mut [u8]) -> Found {
+// Reads to the start of a buffer until it is full or the file ends; answers how many bytes came.
+fn read_all(file: &mut impl Read, buffer: &mut [u8]) -> io::Result<usize> {
     let mut count = 0;
     while count < buffer.len() {
-        let got = libc::read(fd, &mut buffer[count..]);
-        if got < 0 {
-            return failed();
-        }
-        let more = io::count(got, &buffer[count..]);
+        let more = file.read(&mut buffer[count..])?;
         if more == 0 {
-            return Found { whole: true, count };
+            return Ok(count);
         }
-        count = count + more;
+        count += more;
     }
-    Found { whole: true, count }
+    Ok(count)
 }
 
-// Reads a file.
-fn read(name: &[u8], buffer: &mut [u8]) -> Found {
-    let fd = open(name);
-    if fd < 0 {
-        return failed();
+fn open_and_read(rt: &impl Files, name: &str, buffer: &mut [u8]) -> io::Result<Found> {
+    let mut file = fs::open(rt, name)?;
+    let count = read_all(&mut file, buffer)?;
+    Ok(Found { whole: true, count })
+}
+
+// Reads a file, and says what fails.
+fn read(rt: &(impl Files + Eprint + Alloc), name: &str, buffer: &mut [u8]) -> io::Result<Found> {
+    match open_and_read(rt, name, buffer) {
+        Ok(found) => Ok(found),
+        Err(error) => {
+            fail(rt, name, error)?;
+            Ok(failed())
+        }
     }
-    let found = read_all(fd, &mut *buffer);
-    if !found.whole {
-        os::fail(name);
-    }
-    libc::close(fd);
-    found
 }
 
 // Reads the file that argument i names.
-pub fn read_named(i: usize, buffer: &mut [u8], usage: &[u8]) -> Found {
-    let mut name = io::buffer();
-    let length = os::arg(i, &mut name);
-    if os::errno() != 0 {
-        say_usage(usage);
-        return failed();
+pub fn read_named(
+    rt: &(impl Files + Env + Eprint + AllocGlobal),
+    i: usize,
+    buffer: &mut [u8],
+    usage: &str,
+) -> io::Result<Found> {
+    match needed_name(rt, i, usage)? {
+        Some(name) => read(rt, name.as_str(), buffer),
+        None => Ok(failed()),
     }
-    read(&name[..length], &mut *buffer)
 }
 
 // The same as read, and nothing is said.
-fn read_quietly(name: &[u8], buffer: &mut [u8]) -> Found {
-    let fd = os::open_read(name);
-    if fd < 0 {
-        return failed();
+fn read_quietly(rt: &impl Files, name: &str, buffer: &mut [u8]) -> Found {
+    match open_and_read(rt, name, buffer) {
+        Ok(found) => found,
+        Err(_) => failed(),
     }
-    let found = read_all(fd, &mut *buffer);
-    libc::close(fd);
-    found
 }
 
 // Reads the file that argument i names, and says nothing: what is missing or fails is empty.
-pub fn read_named_quietly(i: usize, buffer: &mut [u8]) -> Found {
-    let mut name = io::buffer();
-    let length = os::arg(i, &mut name);
-    if os::errno() != 0 {
-        return failed();
+pub fn read_named_quietly(
+    rt: &(impl Files + Env + AllocGlobal),
+    i: usize,
+    buffer: &mut [u8],
+) -> Found {
+    match name_at(rt, i) {
+        Ok(Some(name)) => read_quietly(rt, name.as_str(), buffer),
+        _ => failed(),
     }
-    read_quietly(&name[..length], &mut *buffer)
 }
 
 // Writes a file, which is created or overwritten.
-fn write(name: &[u8], bytes: &[u8]) {
-    let fd = os::open_overwrite(name);
-    if fd < 0 {
-        os::fail(name);
-        return;
+fn write(rt: &(impl Files + Eprint + Alloc), name: &str, bytes: &[u8]) -> io::Result<()> {
+    match fs::write(rt, name, bytes) {
+        Ok(()) => Ok(()),
+        Err(error) => fail(rt, name, error),
     }
-    let whole = io::write_all(fd, bytes);
-    if !whole {
-        os::fail(name);
-    }
-    libc::close(fd);
 }
 
 // Writes the file that argument i names.
-pub fn write_named(i: usize, bytes: &[u8], usage: &[u8]) {
-    let mut name = io::buffer();
-    let length = os::arg(i, &mut name);
-    if os::errno() != 0 {
-        say_usage(usage);
-        return;
+pub fn write_named(
+    rt: &(impl Files + Env + Eprint + AllocGlobal),
+    i: usize,
+    bytes: &[u8],
+    usage: &str,
+) -> io::Result<()> {
+    match needed_name(rt, i, usage)? {
+        Some(name) => write(rt, name.as_str(), bytes),
+        None => Ok(()),
     }
-    write(&name[..length], bytes);
 }
 
 // What was found, at the start of a buffer.

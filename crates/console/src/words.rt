@@ -1,23 +1,23 @@
 // Words on standard output: numbers, bytes of an image, and what the refusal numbers mean.
-use laws::byte_at;
-use libc::STDOUT_FILENO;
+use std::{fmt, io};
 
-pub fn say(text: &[u8]) {
-    io::write_all(STDOUT_FILENO, text);
+pub fn say(out: &impl Print, text: &[u8]) -> io::Result<()> {
+    out.write_all(text)
 }
 
-pub fn say_number(number: usize) {
-    io::print_decimal(STDOUT_FILENO, number as u64);
+pub fn say_number(out: &impl Print, number: usize) -> io::Result<()> {
+    print!(out; "{number}")
 }
 
 // So many of something, which a noun names.
-pub fn say_count(number: usize, noun: &[u8]) {
-    say_number(number);
-    say(b" ");
-    say(noun);
+pub fn say_count(out: &impl Print, number: usize, noun: &[u8]) -> io::Result<()> {
+    say_number(out, number)?;
+    say(out, b" ")?;
+    say(out, noun)?;
     if number != 1 {
-        say(b"s");
+        say(out, b"s")?;
     }
+    Ok(())
 }
 
 // A byte that a terminal shows; '?' for any other.
@@ -28,49 +28,49 @@ fn shown(byte: u8) -> u8 {
     }
 }
 
-// Bytes of an image, as a terminal can show them.
-pub fn say_plain(bytes: &[u8]) {
-    let mut i = 0;
-    while i < bytes.len() {
-        let one = [shown(byte_at(bytes, i))];
-        say(&one);
-        i = i + 1;
+// Bytes as a terminal can show them.
+#[derive(Drop)]
+struct Plain<'a>(&'a [u8]);
+
+impl fmt::Display for Plain<'_> {
+    fn fmt<W: fmt::Write>(&self, f: &mut fmt::Formatter<W>) -> fmt::Result {
+        for byte in self.0 {
+            f.write_char(char::from(shown(*byte)))?;
+        }
+        Ok(())
     }
+}
+
+// Bytes of an image, as a terminal can show them.
+pub fn say_plain(out: &impl Print, bytes: &[u8]) -> io::Result<()> {
+    print!(out; "{}", Plain(bytes))
 }
 
 // What a refusal number means.
-fn say_meaning(number: u8) {
+fn meaning(number: u8) -> &'static str {
     match number {
-        1 => say(b"the display or the picture has a size that is not allowed"),
-        2 => say(b"the image is under 10 or over 32,768 bytes long"),
-        3 => say(b"the image does not begin with CMF"),
-        4 => say(b"the image is not of version 0.4"),
-        5 => say(b"its numbers are not stored low byte first"),
-        6 => say(b"the image ends inside a structure"),
-        7 => say(b"a byte that the format does not allow there, or a component not supported yet"),
-        8 => say(b"too many levels, lines or fields"),
-        9 => say(
-            b"a field's setting or default is out of range, or a password is not 1 to 8 digits",
-        ),
-        10 => say(b"the sheet is too long, or a field reaches past its end"),
-        11 => say(b"two fields share a byte of the sheet"),
-        12 => say(b"the session does not belong to this image"),
-        13 => say(b"there is no such event"),
-        14 => say(b"no option field is there, or it has no such item"),
-        15 => say(
-            b"the key ends inside a question, or has one that does not fit the image's fields",
-        ),
-        16 => say(b"this is no record, or it has more than 65,535 events"),
-        17 => say(b"the record is of another form"),
-        25 => say(b"there is too little room"),
-        _ => say(b"no meaning"),
+        1 => "the display or the picture has a size that is not allowed",
+        2 => "the image is under 10 or over 32,768 bytes long",
+        3 => "the image does not begin with CMF",
+        4 => "the image is not of version 0.4",
+        5 => "its numbers are not stored low byte first",
+        6 => "the image ends inside a structure",
+        7 => "a byte that the format does not allow there, or a component not supported yet",
+        8 => "too many levels, lines or fields",
+        9 => "a field's setting or default is out of range, or a password is not 1 to 8 digits",
+        10 => "the sheet is too long, or a field reaches past its end",
+        11 => "two fields share a byte of the sheet",
+        12 => "the session does not belong to this image",
+        13 => "there is no such event",
+        14 => "no option field is there, or it has no such item",
+        15 => "the key ends inside a question, or has one that does not fit the image's fields",
+        16 => "this is no record, or it has more than 65,535 events",
+        17 => "the record is of another form",
+        25 => "there is too little room",
+        _ => "no meaning",
     }
 }
 
-pub fn say_refusal(number: u8) {
-    say(b"refused ");
-    say_number(number as usize);
-    say(b": ");
-    say_meaning(number);
-    say(b"\n");
+pub fn say_refusal(out: &impl Print, number: u8) -> io::Result<()> {
+    println!(out; "refused {number}: {}", meaning(number))
 }

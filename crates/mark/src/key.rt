@@ -9,6 +9,7 @@ use console::words::say_refusal;
 use handset::refusal::refusal_of;
 use laws::word_at;
 use marker::mark::{Marked, NO_KEY, mark};
+use std::io;
 
 // One question more than an image can have fields. A longer key does not fit, and neither does its start:
 // one of its questions has no field of its own.
@@ -27,10 +28,8 @@ fn number_at(bytes: &[u8], i: usize) -> u16 {
 
 // The numbers of a key, with zeros after them.
 fn read_numbers(bytes: &[u8], numbers: &mut [u16]) {
-    let mut i = 0;
-    while i < numbers.len() {
-        numbers[i] = number_at(bytes, i);
-        i = i + 1;
+    for (i, number) in numbers.iter_mut().enumerate() {
+        *number = number_at(bytes, i);
     }
 }
 
@@ -45,32 +44,37 @@ fn odd_refusal(image: &[u8], extent: usize) -> u8
     NO_KEY
 }
 
-fn mark_by_numbers(image: &[u8], sheet: &[u8], key: &[u16]) {
-    let marked = mark(image, sheet, key);
-    match marked {
+fn mark_by_numbers(out: &impl Print, image: &[u8], sheet: &[u8], key: &[u16]) -> io::Result<()> {
+    match mark(image, sheet, key) {
         Marked::Sums {
             right,
             wrong,
             blank,
-        } => report(image, sheet, key, right, wrong, blank),
-        Marked::Refused(number) => say_refusal(number),
+        } => report(out, image, sheet, key, right, wrong, blank),
+        Marked::Refused(number) => say_refusal(out, number),
     }
 }
 
 // The same by the first count of some numbers.
-fn mark_by_first(image: &[u8], sheet: &[u8], numbers: &[u16], count: usize) {
+fn mark_by_first(
+    out: &impl Print,
+    image: &[u8],
+    sheet: &[u8],
+    numbers: &[u16],
+    count: usize,
+) -> io::Result<()> {
     if count <= numbers.len() {
-        mark_by_numbers(image, sheet, &numbers[0..count]);
+        mark_by_numbers(out, image, sheet, &numbers[0..count])?;
     }
+    Ok(())
 }
 
 // Marks a sheet by the bytes of a key, and prints what comes of it.
-pub fn mark_by(image: &[u8], sheet: &[u8], bytes: &[u8]) {
+pub fn mark_by(out: &impl Print, image: &[u8], sheet: &[u8], bytes: &[u8]) -> io::Result<()> {
     if bytes.len() % 2 != 0 {
-        say_refusal(odd_refusal(image, sheet.len()));
-        return;
+        return say_refusal(out, odd_refusal(image, sheet.len()));
     }
     let mut numbers = [0u16; MOST];
     read_numbers(bytes, &mut numbers);
-    mark_by_first(image, sheet, &numbers, bytes.len() / 2);
+    mark_by_first(out, image, sheet, &numbers, bytes.len() / 2)
 }

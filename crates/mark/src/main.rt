@@ -10,31 +10,33 @@ mod trim;
 
 use cmf::image::Image;
 use console::file::{IMAGE_ROOM, found_in, read_named};
+use std::io;
 
 // One byte more than a sheet may have, so that a longer file is refused.
 const SHEET_ROOM: usize = Image::MAX_SHEET + 1;
 
-const USAGE: [u8; 28] = *b"usage: mark IMAGE SHEET KEY\n";
+const USAGE: &str = "usage: mark IMAGE SHEET KEY\n";
 
-fn main() {
+fn main(rt: HostRuntime) -> io::Result<()> {
     let mut image = [0u8; IMAGE_ROOM];
     let mut sheet = [0u8; SHEET_ROOM];
     let mut bytes = [0u8; key::ROOM];
-    let image_found = read_named(1, &mut image, &USAGE);
+    let image_found = read_named(&rt, 1, &mut image, USAGE)?;
     if !image_found.whole {
-        return;
+        return Ok(());
     }
-    let sheet_found = read_named(2, &mut sheet, &USAGE);
+    let sheet_found = read_named(&rt, 2, &mut sheet, USAGE)?;
     if !sheet_found.whole {
-        return;
+        return Ok(());
     }
-    let key_found = read_named(3, &mut bytes, &USAGE);
+    let key_found = read_named(&rt, 3, &mut bytes, USAGE)?;
     if !key_found.whole {
-        return;
+        return Ok(());
     }
     key::mark_by(
+        &rt,
         found_in(&image, image_found),
         found_in(&sheet, sheet_found),
         found_in(&bytes, key_found),
-    );
+    )
 }

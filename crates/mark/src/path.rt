@@ -7,6 +7,7 @@ use cmf::place::is_on_line;
 use cmf::text::string_bytes;
 use cmf::title::read_title;
 use console::words::{say, say_plain};
+use std::io;
 
 // The places of the first count lines, the field's own first and the top table's last; none where no line has
 // the field.
@@ -49,8 +50,7 @@ fn path_in(image: &[u8], left: usize, at: usize, place: usize) -> Path {
     let below = left - 1;
     let title = read_title(image, at);
     let mut p = title.line.0;
-    let mut n = 0;
-    while n < Image::MAX_TABLE_LINES + 1 {
+    for _ in 0..=Image::MAX_TABLE_LINES {
         let here = is_on_line(image, p, place);
         if here {
             return none.under(p);
@@ -66,78 +66,81 @@ fn path_in(image: &[u8], left: usize, at: usize, place: usize) -> Path {
             return none;
         }
         p = h.next.0;
-        n = n + 1;
     }
     none
 }
 
 // A constant string, after a blank if a text is before it; whether there is a text by now.
-fn say_string(text: &[u8], before: bool) -> bool {
-    if text.len() == 0 {
-        return before;
+fn say_string(out: &impl Print, text: &[u8], before: bool) -> io::Result<bool> {
+    if text.is_empty() {
+        return Ok(before);
     }
     if before {
-        say(b" ");
+        say(out, b" ")?;
     }
-    say_plain(text);
-    true
+    say_plain(out, text)?;
+    Ok(true)
 }
 
 // A component, if it is a constant string.
-fn say_component(image: &[u8], place: usize, fielded: bool, before: bool) -> bool {
+fn say_component(
+    out: &impl Print,
+    image: &[u8],
+    place: usize,
+    fielded: bool,
+    before: bool,
+) -> io::Result<bool> {
     if fielded {
-        return before;
+        return Ok(before);
     }
-    say_string(trimmed(string_bytes(image, place)), before)
+    say_string(out, trimmed(string_bytes(image, place)), before)
 }
 
 // The constant strings of a line, a blank between each two; whether it has any text.
-fn say_strings(image: &[u8], line: usize) -> bool {
+fn say_strings(out: &impl Print, image: &[u8], line: usize) -> io::Result<bool> {
     let h = read_head(image, line);
     let mut c = h.component.0;
     let mut said = false;
-    let mut left = image.len() + 1;
-    while 0 < left {
+    for _ in 0..=image.len() {
         let component = read_component(image, c);
-        said = say_component(image, c, component.fielded, said);
+        said = say_component(out, image, c, component.fielded, said)?;
         if component.last {
-            return said;
+            return Ok(said);
         }
         c = component.next.0;
-        left = left - 1;
     }
-    said
+    Ok(said)
 }
 
-fn say_line(image: &[u8], line: usize) {
-    let said = say_strings(image, line);
+fn say_line(out: &impl Print, image: &[u8], line: usize) -> io::Result<()> {
+    let said = say_strings(out, image, line)?;
     if !said {
-        say(b"(no text)");
+        say(out, b"(no text)")?;
     }
+    Ok(())
 }
 
 // The ith line of a way, and what leads on to the next one.
-fn say_ith(image: &[u8], lines: &[usize], i: usize) {
+fn say_ith(out: &impl Print, image: &[u8], lines: &[usize], i: usize) -> io::Result<()> {
     if i < lines.len() {
-        say_line(image, lines[i]);
+        say_line(out, image, lines[i])?;
     }
     if 0 < i {
-        say(b" > ");
+        say(out, b" > ")?;
     }
+    Ok(())
 }
 
-fn say_lines(image: &[u8], lines: &[usize], count: usize) {
-    let mut left = count;
-    while 0 < left {
-        left = left - 1;
-        say_ith(image, lines, left);
+fn say_lines(out: &impl Print, image: &[u8], lines: &[usize], count: usize) -> io::Result<()> {
+    for i in (0..count).rev() {
+        say_ith(out, image, lines, i)?;
     }
+    Ok(())
 }
 
 // The way to the component at an image place.
-pub fn say_path(image: &[u8], place: usize) {
+pub fn say_path(out: &impl Print, image: &[u8], place: usize) -> io::Result<()> {
     let path = path_in(image, Image::MAX_DEPTH, Image::PROLOG, place);
-    let count = path.count;
     let lines = path.lines;
-    say_lines(image, &lines, count);
+    say_lines(out, image, &lines, path.count)
 }

@@ -2,20 +2,22 @@
 // program over it has its cases in its `stdin`, and in its `stdout` the lines that the gate compares.
 #![tactic(auto)]
 
+mod hex;
 mod marking;
 mod playing;
+mod reading;
 mod recording;
 
 use field::kind::ImagePlace;
 use handset::draw::draw;
 use handset::open::open;
 use handset::option::option_text;
-use laws::{byte_at, word_at};
-use libc::{STDIN_FILENO, STDOUT_FILENO};
+use hex::Hex;
+use laws::byte_at;
 use picture::cursor::EditCursor;
+use reading::{read_full, read_given, read_number, read_start};
 use session::session::Session;
-use session_bytes::layout::SIZE;
-use session_bytes::read::read_session;
+use std::io;
 use walk::check::check;
 
 // A case: check an image, ask for an option's text, open an image on a sheet of bytes 0xEE, draw a session on
@@ -39,164 +41,138 @@ const RECORD: u8 = 8;
 
 const REPLAY: u8 = 9;
 
+// Room for what a case tells the length of in two bytes: an image, a sheet or a record.
+pub const ROOM: usize = 65536;
+
 // The longest picture that a case can have.
 const PICTURE: usize = 256;
 
-// Reads so many bytes of the input to the start of a buffer that has room for them.
-fn read_start(buffer: &mut [u8], count: usize) {
+// The most cases that an input can have.
+const MOST: u32 = 65536;
+
+fn write_start(rt: &impl Print, buffer: &[u8], count: usize) -> io::Result<()> {
     if count <= buffer.len() {
-        io::read_full(STDIN_FILENO, &mut buffer[..count]);
+        rt.write_all(&buffer[..count])?;
     }
+    Ok(())
 }
 
-// Two bytes of the input as a number.
-fn read_word() -> u16 {
-    let mut bytes = [0u8; 2];
-    io::read_full(STDIN_FILENO, &mut bytes);
-    word_at(&bytes, 0)
-}
-
-fn read_number() -> usize {
-    read_word() as usize
-}
-
-// The session that the input gives, as `session_bytes` lays it out.
-fn read_given() -> Session {
-    let mut record = [0u8; SIZE];
-    io::read_full(STDIN_FILENO, &mut record);
-    read_session(&record)
-}
-
-fn write_start(buffer: &[u8], count: usize) {
-    if count <= buffer.len() {
-        io::write_all(STDOUT_FILENO, &buffer[..count]);
-    }
-}
-
-fn print_hex(bytes: &[u8]) {
-    let mut i = 0;
-    while i < bytes.len() {
-        io::print_hex(STDOUT_FILENO, byte_at(bytes, i) as u64, 2);
-        i = i + 1;
-    }
-}
-
-fn print_space() {
-    io::write_all(STDOUT_FILENO, b" ");
-}
-
-fn run_check(image: &[u8], sheet: &[u8]) {
+fn run_check(rt: &impl Print, image: &[u8], sheet: &[u8]) -> io::Result<()> {
     let c = check(image, sheet.len());
-    io::print_decimal(STDOUT_FILENO, c.progress.refusal as u64);
+    print!(rt; "{}", c.progress.refusal)
 }
 
-fn run_text(image: &[u8], sheet: &[u8], place: usize, item: usize) {
+fn run_text(
+    rt: &impl Print,
+    image: &[u8],
+    sheet: &[u8],
+    place: usize,
+    item: usize,
+) -> io::Result<()> {
     let mut refusal = 0;
     let text = option_text(image, sheet, ImagePlace(place), item, &mut refusal);
-    io::print_decimal(STDOUT_FILENO, refusal as u64);
-    io::write_all(STDOUT_FILENO, b" ");
-    print_hex(text);
+    print!(rt; "{refusal} {}", Hex(text))
 }
 
 // Every byte of a sheet, picture or room 0xEE.
 fn fill(sheet: &mut [u8]) {
-    let mut i = 0;
-    while i < sheet.len() {
-        sheet[i] = 0xee;
-        i = i + 1;
-    }
-}
-
-fn print_opened(refusal: u8, columns: u8, lines: u8) {
-    io::print_decimal(STDOUT_FILENO, refusal as u64);
-    io::write_all(STDOUT_FILENO, b" ");
-    io::print_decimal(STDOUT_FILENO, columns as u64);
-    io::write_all(STDOUT_FILENO, b"x");
-    io::print_decimal(STDOUT_FILENO, lines as u64);
-    io::write_all(STDOUT_FILENO, b" ");
+    sheet.fill(0xee);
 }
 
 // The refusal, what the session's display has, and the sheet afterwards.
-fn run_open(image: &[u8], sheet: &mut [u8], columns: usize, lines: usize) {
+fn run_open(
+    rt: &impl Print,
+    image: &[u8],
+    sheet: &mut [u8],
+    columns: u8,
+    lines: u8,
+) -> io::Result<()> {
     fill(&mut *sheet);
-    let opened = open(
-        image,
-        &mut *sheet,
-        (columns % 256) as u8,
-        (lines % 256) as u8,
-    );
-    print_opened(opened.refusal, opened.session.columns, opened.session.lines);
-    print_hex(sheet);
+    let opened = open(image, &mut *sheet, columns, lines);
+    let session = opened.session;
+    print!(rt; "{} {}x{} ", opened.refusal, session.columns, session.lines)?;
+    print!(rt; "{}", Hex(sheet))
 }
 
-fn print_place(row: usize, column: usize) {
-    io::print_decimal(STDOUT_FILENO, row as u64);
-    io::write_all(STDOUT_FILENO, b",");
-    io::print_decimal(STDOUT_FILENO, column as u64);
-}
-
-fn print_none() {
-    io::write_all(STDOUT_FILENO, b"-");
-}
-
-fn print_cursor(cursor: EditCursor) {
+fn print_cursor(rt: &impl Print, cursor: EditCursor) -> io::Result<()> {
     match cursor {
-        EditCursor::Nowhere => print_none(),
-        EditCursor::At { row, column } => print_place(row, column),
+        EditCursor::Nowhere => print!(rt; "-"),
+        EditCursor::At { row, column } => print!(rt; "{row},{column}"),
     }
 }
 
-fn print_drawn(refusal: u8, cursor: EditCursor, picture: &[u8]) {
-    io::print_decimal(STDOUT_FILENO, refusal as u64);
-    io::write_all(STDOUT_FILENO, b" ");
-    print_cursor(cursor);
-    io::write_all(STDOUT_FILENO, b" ");
-    print_hex(picture);
+fn print_drawn(rt: &impl Print, refusal: u8, cursor: EditCursor, picture: &[u8]) -> io::Result<()> {
+    print!(rt; "{refusal} ")?;
+    print_cursor(rt, cursor)?;
+    print!(rt; " {}", Hex(picture))
 }
 
 // The refusal, the edit cursor, and the picture afterwards.
-fn run_drawn(image: &[u8], sheet: &[u8], session: Session, picture: &mut [u8]) {
+fn run_drawn(
+    rt: &impl Print,
+    image: &[u8],
+    sheet: &[u8],
+    session: Session,
+    picture: &mut [u8],
+) -> io::Result<()> {
     fill(&mut *picture);
     let drawn = draw(image, sheet, session, &mut *picture);
-    let cursor = drawn.cursor;
-    print_drawn(drawn.refusal, cursor, picture);
+    print_drawn(rt, drawn.refusal, drawn.cursor, picture)
 }
 
 // The same on the start of a picture.
-fn run_drawn_on(image: &[u8], sheet: &[u8], session: Session, picture: &mut [u8], length: usize) {
+fn run_drawn_on(
+    rt: &impl Print,
+    image: &[u8],
+    sheet: &[u8],
+    session: Session,
+    picture: &mut [u8],
+    length: usize,
+) -> io::Result<()> {
     if length <= picture.len() {
-        run_drawn(image, sheet, session, &mut picture[..length]);
+        run_drawn(rt, image, sheet, session, &mut picture[..length])?;
     }
+    Ok(())
 }
 
 // The input of Draw goes on: the sheet's bytes, the picture's length in two bytes, the session.
-fn run_draw(image: &[u8], sheet: &mut [u8]) {
-    io::read_full(STDIN_FILENO, &mut *sheet);
-    let length = read_number();
-    let session = read_given();
+fn run_draw(rt: &(impl Input + Print), image: &[u8], sheet: &mut [u8]) -> io::Result<()> {
+    read_full(rt, &mut *sheet)?;
+    let length = read_number(rt)?;
+    let session = read_given(rt)?;
     let mut picture = [0u8; PICTURE];
-    run_drawn_on(image, sheet, session, &mut picture, length);
+    run_drawn_on(rt, image, sheet, session, &mut picture, length)
 }
 
 // Runs an operation on image and sheet; Open, a list of events and a record take columns and lines in place
 // of place and item, and recording takes events and room in place of image and sheet.
-fn run(op: u8, image: &[u8], sheet: &mut [u8], place: usize, item: usize) {
+fn run(
+    rt: &(impl Input + Print),
+    op: u8,
+    image: &[u8],
+    sheet: &mut [u8],
+    place: usize,
+    item: usize,
+) -> io::Result<()> {
+    let columns = (place % 256) as u8;
+    let lines = (item % 256) as u8;
     match op {
-        CHECK => run_check(image, sheet),
-        TEXT => run_text(image, sheet, place, item),
-        OPEN => run_open(image, sheet, place, item),
-        DRAW => run_draw(image, sheet),
-        PLAY => playing::run_play(image, sheet, (place % 256) as u8, (item % 256) as u8),
-        STEP => playing::run_step(image, sheet),
-        MARK => marking::run_mark(image, sheet),
-        RECORD => recording::run_record(image, sheet),
-        REPLAY => recording::run_replay(image, sheet, (place % 256) as u8, (item % 256) as u8),
-        _ => (),
+        CHECK => run_check(rt, image, sheet),
+        TEXT => run_text(rt, image, sheet, place, item),
+        OPEN => run_open(rt, image, sheet, columns, lines),
+        DRAW => run_draw(rt, image, sheet),
+        PLAY => playing::run_play(rt, image, sheet, columns, lines),
+        STEP => playing::run_step(rt, image, sheet),
+        MARK => marking::run_mark(rt, image, sheet),
+        RECORD => recording::run_record(rt, image, sheet),
+        REPLAY => recording::run_replay(rt, image, sheet, columns, lines),
+        _ => Ok(()),
     }
 }
 
 // The same on the starts of image and sheet.
 fn run_on(
+    rt: &(impl Input + Print),
     op: u8,
     image: &[u8],
     length: usize,
@@ -204,32 +180,32 @@ fn run_on(
     room: usize,
     place: usize,
     item: usize,
-) {
-    if length <= image.len() {
-        if room <= sheet.len() {
-            run(op, &image[..length], &mut sheet[..room], place, item);
-        }
+) -> io::Result<()> {
+    if length <= image.len() && room <= sheet.len() {
+        run(rt, op, &image[..length], &mut sheet[..room], place, item)?;
     }
+    Ok(())
 }
 
 // One case: its operation, the length of its name and the name; lengths of image and sheet, place and item,
 // two bytes each; the image. False at the end of the input.
-fn run_case(image: &mut [u8], sheet: &mut [u8]) -> bool {
+fn run_case(rt: &(impl Input + Print), image: &mut [u8], sheet: &mut [u8]) -> io::Result<bool> {
     let mut head = [0u8; 2];
-    let got = io::read_full(STDIN_FILENO, &mut head);
+    let got = read_full(rt, &mut head)?;
     if got < 2 {
-        return false;
+        return Ok(false);
     }
     let count = byte_at(&head, 1) as usize;
-    read_start(&mut *image, count);
-    write_start(image, count);
-    io::write_all(STDOUT_FILENO, b": ");
-    let length = read_number();
-    let room = read_number();
-    let place = read_number();
-    let item = read_number();
-    read_start(&mut *image, length);
+    read_start(rt, &mut *image, count)?;
+    write_start(rt, image, count)?;
+    print!(rt; ": ")?;
+    let length = read_number(rt)?;
+    let room = read_number(rt)?;
+    let place = read_number(rt)?;
+    let item = read_number(rt)?;
+    read_start(rt, &mut *image, length)?;
     run_on(
+        rt,
         byte_at(&head, 0),
         image,
         length,
@@ -237,19 +213,18 @@ fn run_case(image: &mut [u8], sheet: &mut [u8]) -> bool {
         room,
         place,
         item,
-    );
-    io::write_all(STDOUT_FILENO, b"\n");
-    true
+    )?;
+    println!(rt)?;
+    Ok(true)
 }
 
 // Runs the cases one by one; image and sheet are room for those of a case.
-pub fn run_cases(image: &mut [u8], sheet: &mut [u8]) {
-    let mut left: usize = 65536;
-    while 0 < left {
-        let more = run_case(&mut *image, &mut *sheet);
+pub fn run_cases(rt: &(impl Input + Print), image: &mut [u8], sheet: &mut [u8]) -> io::Result<()> {
+    for _ in 0..MOST {
+        let more = run_case(rt, &mut *image, &mut *sheet)?;
         if !more {
-            return;
+            return Ok(());
         }
-        left = left - 1;
     }
+    Ok(())
 }

@@ -1,74 +1,80 @@
 // Cases of Event: a list of events played from Open on, and one event on a given session. An answer is
 // printed as 't' for taken, 'f' for flash, 'd' and the image place for finished, '!' and the image place for
 // fired, 'r' and the number for refused.
-use crate::{
-    PICTURE, fill, print_hex, print_space, read_given, read_number, read_start, run_drawn_on,
-};
+use crate::hex::Hex;
+use crate::reading::{read_full, read_given, read_number, read_start};
+use crate::{PICTURE, fill, run_drawn_on};
 use handset::event::event;
 use handset::open::open;
-use laws::byte_at;
-use libc::{STDIN_FILENO, STDOUT_FILENO};
 use session::answer::Answer;
 use session::session::Session;
 use session_bytes::layout::SIZE;
 use session_bytes::write::write_session;
+use std::io;
 
 // How many events a case can have.
 const MOST: usize = 4096;
 
-fn print_mark(mark: &[u8]) {
-    io::write_all(STDOUT_FILENO, mark);
-}
-
-fn print_numbered(mark: &[u8], number: usize) {
-    io::write_all(STDOUT_FILENO, mark);
-    io::print_decimal(STDOUT_FILENO, number as u64);
-}
-
-fn print_answer(answer: Answer) {
+fn print_answer(rt: &impl Print, answer: Answer) -> io::Result<()> {
     match answer {
-        Answer::Taken => print_mark(b"t"),
-        Answer::Flash => print_mark(b"f"),
-        Answer::Finished(place) => print_numbered(b"d", place.0),
-        Answer::Fired(place) => print_numbered(b"!", place.0),
-        Answer::Refused(number) => print_numbered(b"r", number as usize),
+        Answer::Taken => print!(rt; "t"),
+        Answer::Flash => print!(rt; "f"),
+        Answer::Finished(place) => print!(rt; "d{}", place.0),
+        Answer::Fired(place) => print!(rt; "!{}", place.0),
+        Answer::Refused(number) => print!(rt; "r{number}"),
     }
 }
 
 // Plays an event, prints the answer, and hands back the session that comes of it.
-fn play_one(image: &[u8], sheet: &mut [u8], session: Session, number: u8) -> Session {
+fn play_one(
+    rt: &impl Print,
+    image: &[u8],
+    sheet: &mut [u8],
+    session: Session,
+    number: u8,
+) -> io::Result<Session> {
     let stepped = event(image, &mut *sheet, session, number);
-    let answer = stepped.answer;
-    print_answer(answer);
-    print_space();
-    stepped.session
+    print_answer(rt, stepped.answer)?;
+    print!(rt; " ")?;
+    Ok(stepped.session)
 }
 
 // Plays the events one after another, each on the session and sheet that the one before it left; prints the
 // answers, and hands back the session reached.
-fn play(image: &[u8], sheet: &mut [u8], start: Session, events: &[u8]) -> Session {
+fn play(
+    rt: &impl Print,
+    image: &[u8],
+    sheet: &mut [u8],
+    start: Session,
+    events: &[u8],
+) -> io::Result<Session> {
     let mut session = start;
-    let mut i = 0;
-    while i < events.len() {
-        session = play_one(image, &mut *sheet, session, byte_at(events, i));
-        i = i + 1;
+    for number in events {
+        session = play_one(rt, image, &mut *sheet, session, *number)?;
     }
-    session
+    Ok(session)
 }
 
 // The same with the events at the start of a list.
-fn play_on(image: &[u8], sheet: &mut [u8], start: Session, events: &[u8], count: usize) -> Session {
+fn play_on(
+    rt: &impl Print,
+    image: &[u8],
+    sheet: &mut [u8],
+    start: Session,
+    events: &[u8],
+    count: usize,
+) -> io::Result<Session> {
     if count <= events.len() {
-        return play(image, &mut *sheet, start, &events[..count]);
+        return play(rt, image, &mut *sheet, start, &events[..count]);
     }
-    start
+    Ok(start)
 }
 
 // The list of events in the input: its count in two bytes, and the events.
-fn read_events(events: &mut [u8]) -> usize {
-    let length = read_number();
-    read_start(&mut *events, length);
-    length
+fn read_events(rt: &impl Input, events: &mut [u8]) -> io::Result<usize> {
+    let length = read_number(rt)?;
+    read_start(rt, &mut *events, length)?;
+    Ok(length)
 }
 
 // The bytes of a display's picture.
@@ -77,45 +83,68 @@ fn area(columns: u8, lines: u8) -> usize {
 }
 
 // Opens the image on a sheet of bytes 0xEE; prints the refusal, and hands back the session.
-fn start(image: &[u8], sheet: &mut [u8], columns: u8, lines: u8) -> Session {
+fn start(
+    rt: &impl Print,
+    image: &[u8],
+    sheet: &mut [u8],
+    columns: u8,
+    lines: u8,
+) -> io::Result<Session> {
     fill(&mut *sheet);
     let opened = open(image, &mut *sheet, columns, lines);
-    let session = opened.session;
-    io::print_decimal(STDOUT_FILENO, opened.refusal as u64);
-    print_space();
-    session
+    print!(rt; "{} ", opened.refusal)?;
+    Ok(opened.session)
 }
 
 // The sheet that a list of events left, and what Draw answers on the session that it left.
-pub fn print_end(image: &[u8], sheet: &[u8], session: Session, columns: u8, lines: u8) {
-    print_hex(sheet);
-    print_space();
+pub fn print_end(
+    rt: &impl Print,
+    image: &[u8],
+    sheet: &[u8],
+    session: Session,
+    columns: u8,
+    lines: u8,
+) -> io::Result<()> {
+    print!(rt; "{} ", Hex(sheet))?;
     let mut picture = [0u8; PICTURE];
-    run_drawn_on(image, sheet, session, &mut picture, area(columns, lines));
+    run_drawn_on(
+        rt,
+        image,
+        sheet,
+        session,
+        &mut picture,
+        area(columns, lines),
+    )
 }
 
 // Open's refusal, each event's answer, the sheet afterwards, and what Draw then answers.
-pub fn run_play(image: &[u8], sheet: &mut [u8], columns: u8, lines: u8) {
+pub fn run_play(
+    rt: &(impl Input + Print),
+    image: &[u8],
+    sheet: &mut [u8],
+    columns: u8,
+    lines: u8,
+) -> io::Result<()> {
     let mut events = [0u8; MOST];
-    let count = read_events(&mut events);
-    let opened = start(image, &mut *sheet, columns, lines);
-    let session = play_on(image, &mut *sheet, opened, &events, count);
-    print_end(image, sheet, session, columns, lines);
+    let count = read_events(rt, &mut events)?;
+    let opened = start(rt, image, &mut *sheet, columns, lines)?;
+    let session = play_on(rt, image, &mut *sheet, opened, &events, count)?;
+    print_end(rt, image, sheet, session, columns, lines)
 }
 
-fn print_session(session: Session) {
+fn print_session(rt: &impl Print, session: Session) -> io::Result<()> {
     let mut record = [0u8; SIZE];
     write_session(&mut record, session);
-    print_hex(&record);
+    print!(rt; "{}", Hex(&record))
 }
 
 // One event on the session and sheet of the input, which goes on as that of Draw does, with the event in two
 // bytes for the picture's length: the answer, the sheet afterwards, and the session handed back.
-pub fn run_step(image: &[u8], sheet: &mut [u8]) {
-    io::read_full(STDIN_FILENO, &mut *sheet);
-    let number = read_number();
-    let session = play_one(image, &mut *sheet, read_given(), (number % 256) as u8);
-    print_hex(sheet);
-    print_space();
-    print_session(session);
+pub fn run_step(rt: &(impl Input + Print), image: &[u8], sheet: &mut [u8]) -> io::Result<()> {
+    read_full(rt, &mut *sheet)?;
+    let number = read_number(rt)?;
+    let given = read_given(rt)?;
+    let session = play_one(rt, image, &mut *sheet, given, (number % 256) as u8)?;
+    print!(rt; "{} ", Hex(sheet))?;
+    print_session(rt, session)
 }

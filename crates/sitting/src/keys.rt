@@ -2,9 +2,12 @@
 // line's end shows the picture.
 use crate::show::show;
 use console::events::{say_answer, say_key};
+use console::file::fail;
 use console::words::say;
 use handset::event::event;
 use session::session::Session;
+use std::io;
+use std::io::Read;
 
 // The most bytes of keys that are played.
 pub const MOST: usize = 65536;
@@ -14,24 +17,13 @@ const NONE: u8 = 255;
 
 const NEWLINE: u8 = b'\n';
 
-#[derive(Clone, Copy)]
-enum Key {
-    Byte(u8),
-    End,
-    Failed,
-}
-
-// The next byte of the keys.
-fn next_key(fd: i32) -> Key {
+// The next byte of the keys; none at their end.
+fn next_key(keys: &mut impl Read) -> io::Result<Option<u8>> {
     let mut byte = [0u8; 1];
-    let got = libc::read(fd, &mut byte);
-    if got < 0 {
-        return Key::Failed;
+    if keys.read(&mut byte)? == 0 {
+        return Ok(None);
     }
-    if got == 0 {
-        return Key::End;
-    }
-    Key::Byte(byte[0])
+    Ok(Some(byte[0]))
 }
 
 // The event that a letter stands for.
@@ -50,25 +42,37 @@ fn event_of(letter: u8) -> u8 {
 }
 
 // Plays an event, says what was pressed and answered, and hands back the session that comes of it.
-fn step(image: &[u8], sheet: &mut [u8], session: Session, number: u8) -> Session {
+fn step(
+    out: &impl Print,
+    image: &[u8],
+    sheet: &mut [u8],
+    session: Session,
+    number: u8,
+) -> io::Result<Session> {
     let stepped = event(image, &mut *sheet, session, number);
     let answer = stepped.answer;
-    say_key(number);
-    say_answer(answer.number());
-    stepped.session
+    say_key(out, number)?;
+    say_answer(out, answer.number())?;
+    Ok(stepped.session)
 }
 
 // Plays a letter of the keys, and hands back the session that comes of it.
-fn play(image: &[u8], sheet: &mut [u8], session: Session, letter: u8) -> Session {
+fn play(
+    out: &impl Print,
+    image: &[u8],
+    sheet: &mut [u8],
+    session: Session,
+    letter: u8,
+) -> io::Result<Session> {
     if letter == NEWLINE {
-        show(image, sheet, session);
-        return session;
+        show(out, image, sheet, session)?;
+        return Ok(session);
     }
     let number = event_of(letter);
     if number == NONE {
-        return session;
+        return Ok(session);
     }
-    step(image, &mut *sheet, session, number)
+    step(out, image, &mut *sheet, session, number)
 }
 
 // Notes the event that a letter stands for, after so many in a list; answers how many there are then.
@@ -85,59 +89,62 @@ fn note(events: &mut [u8], count: usize, letter: u8) -> usize {
 }
 
 // The picture at the end of keys whose last line has no end.
-fn end(image: &[u8], sheet: &[u8], session: Session, ended: bool) {
+fn end(
+    out: &impl Print,
+    image: &[u8],
+    sheet: &[u8],
+    session: Session,
+    ended: bool,
+) -> io::Result<()> {
     if !ended {
-        show(image, sheet, session);
+        show(out, image, sheet, session)?;
     }
+    Ok(())
 }
 
 // Says so where keys are left.
-fn say_rest(fd: i32) {
-    let key = next_key(fd);
-    if let Key::Byte(_) = key {
-        say(b"more than 65,536 bytes of keys: the rest is not played\n");
+fn say_rest(out: &impl Print, keys: &mut impl Read) -> io::Result<()> {
+    match next_key(keys) {
+        Ok(Some(_)) => say(
+            out,
+            b"more than 65,536 bytes of keys: the rest is not played\n",
+        ),
+        _ => Ok(()),
     }
 }
 
-fn fail() {
-    os::fail(b"the keys");
-}
-
-// Says so where the keys could not be read.
-fn say_failed(key: Key) {
-    match key {
-        Key::Byte(_) => (),
-        Key::End => (),
-        Key::Failed => fail(),
-    }
-}
-
-// Plays the keys of a descriptor, each on the session and sheet that the one before it left. Their events go
-// to the start of a lent list; answers how many they are.
+// Plays the keys, each on the session and sheet that the one before it left. Their events go to the start of
+// a lent list; answers how many they are.
 pub fn play_all(
+    rt: &(impl Print + Eprint + Alloc),
     image: &[u8],
     sheet: &mut [u8],
     start: Session,
-    fd: i32,
+    keys: &mut impl Read,
     events: &mut [u8],
-) -> usize {
+) -> io::Result<usize> {
     let mut session = start;
     let mut count = 0;
     let mut ended = true;
-    let mut left = MOST;
-    while 0 < left {
-        let key = next_key(fd);
-        let Key::Byte(letter) = key else {
-            end(image, sheet, session, ended);
-            say_failed(key);
-            return count;
-        };
-        session = play(image, &mut *sheet, session, letter);
-        count = note(&mut *events, count, letter);
-        ended = letter == NEWLINE;
-        left = left - 1;
+    for _ in 0..MOST {
+        match next_key(keys) {
+            Ok(Some(letter)) => {
+                session = play(rt, image, &mut *sheet, session, letter)?;
+                count = note(&mut *events, count, letter);
+                ended = letter == NEWLINE;
+            }
+            Ok(None) => {
+                end(rt, image, sheet, session, ended)?;
+                return Ok(count);
+            }
+            Err(error) => {
+                end(rt, image, sheet, session, ended)?;
+                fail(rt, "the keys", error)?;
+                return Ok(count);
+            }
+        }
     }
-    end(image, sheet, session, ended);
-    say_rest(fd);
-    count
+    end(rt, image, sheet, session, ended)?;
+    say_rest(rt, keys)?;
+    Ok(count)
 }

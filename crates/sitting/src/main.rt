@@ -10,47 +10,54 @@ mod show;
 
 use cmf::image::Image;
 use console::display::{COLUMNS, LINES};
-use console::file::{IMAGE_ROOM, found_in, open_named, read_named};
+use console::file::{IMAGE_ROOM, Source, found_in, open_named, read_named};
 use console::words::say_refusal;
 use handset::open::open;
-use libc::STDIN_FILENO;
+use std::env::Env;
+use std::fs::Files;
+use std::io::Read;
+use std::{env, io};
 
-const USAGE: [u8; 37] = *b"usage: sitting IMAGE [KEYS [RECORD]]\n";
+const USAGE: &str = "usage: sitting IMAGE [KEYS [RECORD]]\n";
 
-// Plays the keys of a descriptor on an image, and prints what comes of it.
-fn sit(image: &[u8], fd: i32) {
+// Plays keys on an image, and prints what comes of it.
+fn sit(
+    rt: &(impl Files + Env + Print + Eprint + AllocGlobal),
+    image: &[u8],
+    keys: &mut impl Read,
+) -> io::Result<()> {
     let mut sheet = [0u8; Image::MAX_SHEET];
     let mut events = [0u8; keys::MOST];
     let opened = open(image, &mut sheet, COLUMNS, LINES);
     let session = opened.session;
     if opened.refusal != 0 {
-        say_refusal(opened.refusal);
-        fields::print_reach(image, sheet.len(), opened.refusal);
-        return;
+        say_refusal(rt, opened.refusal)?;
+        return fields::print_reach(rt, image, sheet.len(), opened.refusal);
     }
-    show::show(image, &sheet, session);
-    let count = keys::play_all(image, &mut sheet, session, fd, &mut events);
-    fields::print_fields(image, &sheet);
-    recorder::record_first(&events, count, &USAGE);
+    show::show(rt, image, &sheet, session)?;
+    let count = keys::play_all(rt, image, &mut sheet, session, keys, &mut events)?;
+    fields::print_fields(rt, image, &sheet)?;
+    recorder::record_first(rt, &events, count, USAGE)
 }
 
 // The keys come from the file that the second argument names, or from standard input without one or for `-`.
-fn keys_from() -> i32 {
-    if os::arg_count() < 3 {
-        return STDIN_FILENO;
+fn keys_from<R: Files + Env + Input + Eprint + AllocGlobal>(
+    rt: &R,
+) -> io::Result<Option<Source<R::Reader, R::File>>> {
+    if env::args(rt)?.len() < 3 {
+        return Ok(Some(Source::Standard(rt.reader())));
     }
-    open_named(2, &USAGE)
+    open_named(rt, 2, USAGE)
 }
 
-fn main() {
+fn main(rt: HostRuntime) -> io::Result<()> {
     let mut image = [0u8; IMAGE_ROOM];
-    let found = read_named(1, &mut image, &USAGE);
+    let found = read_named(&rt, 1, &mut image, USAGE)?;
     if !found.whole {
-        return;
+        return Ok(());
     }
-    let fd = keys_from();
-    if fd < 0 {
-        return;
+    match keys_from(&rt)? {
+        Some(mut keys) => sit(&rt, found_in(&image, found), &mut keys),
+        None => Ok(()),
     }
-    sit(found_in(&image, found), fd);
 }

@@ -2,6 +2,9 @@
 use console::file::write_named;
 use console::words::say_refusal;
 use record::recording::{MAX_EVENTS, record};
+use std::env::Env;
+use std::fs::Files;
+use std::{env, io};
 
 // The third argument.
 const RECORD: usize = 3;
@@ -10,29 +13,41 @@ const RECORD: usize = 3;
 const ROOM: usize = 4 + MAX_EVENTS;
 
 // Writes the first length bytes of a room.
-fn write_first(room: &[u8], length: usize, usage: &[u8]) {
+fn write_first(
+    rt: &(impl Files + Env + Eprint + AllocGlobal),
+    room: &[u8],
+    length: usize,
+    usage: &str,
+) -> io::Result<()> {
     if length <= room.len() {
-        write_named(RECORD, &room[0..length], usage);
+        write_named(rt, RECORD, &room[0..length], usage)?;
     }
+    Ok(())
 }
 
 // Writes a record of events.
-fn write_record(events: &[u8], usage: &[u8]) {
+fn write_record(
+    rt: &(impl Files + Env + Print + Eprint + AllocGlobal),
+    events: &[u8],
+    usage: &str,
+) -> io::Result<()> {
     let mut room = [0u8; ROOM];
     let recorded = record(events, &mut room);
     if recorded.refusal != 0 {
-        say_refusal(recorded.refusal);
-        return;
+        return say_refusal(rt, recorded.refusal);
     }
-    write_first(&room, recorded.length, usage);
+    write_first(rt, &room, recorded.length, usage)
 }
 
 // Writes a record of the first count of some events, if there is a file for it.
-pub fn record_first(events: &[u8], count: usize, usage: &[u8]) {
-    if os::arg_count() <= RECORD {
-        return;
+pub fn record_first(
+    rt: &(impl Files + Env + Print + Eprint + AllocGlobal),
+    events: &[u8],
+    count: usize,
+    usage: &str,
+) -> io::Result<()> {
+    if RECORD < env::args(rt)?.len() && count <= events.len() {
+        write_record(rt, &events[0..count], usage)?;
     }
-    if count <= events.len() {
-        write_record(&events[0..count], usage);
-    }
+    Ok(())
 }

@@ -5,70 +5,66 @@ use console::words::{say, say_plain, say_refusal};
 use handset::draw::draw;
 use picture::cursor::EditCursor;
 use session::session::Session;
+use std::io;
 
-fn print_edge() {
-    say(b"+--------------------+\n");
+fn print_edge(out: &impl Print) -> io::Result<()> {
+    say(out, b"+--------------------+\n")
 }
 
-fn print_row(picture: &[u8], row: usize) {
+fn print_row(out: &impl Print, picture: &[u8], row: usize) -> io::Result<()> {
     if row < ROWS {
         let from = WIDTH * row;
         let to = from + WIDTH;
         if to <= picture.len() {
-            say(b"|");
-            say_plain(&picture[from..to]);
-            say(b"|\n");
+            say(out, b"|")?;
+            say_plain(out, &picture[from..to])?;
+            say(out, b"|\n")?;
         }
     }
+    Ok(())
 }
 
 // A '^' under a column; the frame's bar is before column 0.
-fn print_caret(column: usize) {
-    let mut i = 0;
-    while i < column {
-        say(b" ");
-        i = i + 1;
+fn print_caret(out: &impl Print, column: usize) -> io::Result<()> {
+    for _ in 0..column {
+        say(out, b" ")?;
     }
-    say(b" ^\n");
-}
-
-fn print_caret_if(here: bool, column: usize) {
-    if here {
-        print_caret(column);
-    }
+    say(out, b" ^\n")
 }
 
 // The edit cursor, where it is on a row.
-fn print_cursor(cursor: EditCursor, under: usize) {
+fn print_cursor(out: &impl Print, cursor: EditCursor, under: usize) -> io::Result<()> {
     match cursor {
-        EditCursor::Nowhere => (),
-        EditCursor::At { row, column } => print_caret_if(row == under, column),
+        EditCursor::At { row, column } if row == under => print_caret(out, column),
+        _ => Ok(()),
     }
 }
 
-fn print_rows(picture: &[u8], cursor: EditCursor) {
-    let mut row = 0;
-    while row < ROWS {
-        print_row(picture, row);
-        print_cursor(cursor, row);
-        row = row + 1;
+fn print_rows(out: &impl Print, picture: &[u8], cursor: EditCursor) -> io::Result<()> {
+    for row in 0..ROWS {
+        print_row(out, picture, row)?;
+        print_cursor(out, cursor, row)?;
     }
+    Ok(())
 }
 
-fn print_drawn(refusal: u8, cursor: EditCursor, picture: &[u8]) {
+fn print_drawn(
+    out: &impl Print,
+    refusal: u8,
+    cursor: EditCursor,
+    picture: &[u8],
+) -> io::Result<()> {
     if refusal != 0 {
-        say_refusal(refusal);
-        return;
+        return say_refusal(out, refusal);
     }
-    print_edge();
-    print_rows(picture, cursor);
-    print_edge();
+    print_edge(out)?;
+    print_rows(out, picture, cursor)?;
+    print_edge(out)
 }
 
 // The picture of a session.
-pub fn show(image: &[u8], sheet: &[u8], session: Session) {
+pub fn show(out: &impl Print, image: &[u8], sheet: &[u8], session: Session) -> io::Result<()> {
     let mut picture = [0u8; CELLS];
     let drawn = draw(image, sheet, session, &mut picture);
-    let cursor = drawn.cursor;
-    print_drawn(drawn.refusal, cursor, &picture);
+    print_drawn(out, drawn.refusal, drawn.cursor, &picture)
 }

@@ -11,12 +11,13 @@ use console::words::say_refusal;
 use playback::play::play;
 use record::reading::check_record;
 use record::recording::MAX_EVENTS;
+use std::io;
 
 // A number has three bytes at most, and the form and the number of events come before the events; one byte
 // more, so that a longer file is refused.
 const RECORD_ROOM: usize = 3 * (MAX_EVENTS + 2) + 1;
 
-const USAGE: [u8; 31] = *b"usage: transcript IMAGE RECORD\n";
+const USAGE: &str = "usage: transcript IMAGE RECORD\n";
 
 // The events of a record that was not refused: the bytes from the first of them on.
 fn events_of<'a>(recorded: &'a [u8]) -> &'a [u8] {
@@ -29,30 +30,30 @@ fn events_of<'a>(recorded: &'a [u8]) -> &'a [u8] {
 }
 
 // Plays a record on an image, and tells what was pressed.
-fn transcribe(image: &[u8], recorded: &[u8]) {
+fn transcribe(out: &impl Print, image: &[u8], recorded: &[u8]) -> io::Result<()> {
     let mut sheet = [0u8; Image::MAX_SHEET];
     let mut answers = [0u32; MAX_EVENTS];
     let replayed = play(image, &mut sheet, COLUMNS, LINES, recorded, &mut answers);
     if replayed.refusal != 0 {
-        say_refusal(replayed.refusal);
-        return;
+        return say_refusal(out, replayed.refusal);
     }
-    tell::tell(events_of(recorded), &answers);
+    tell::tell(out, events_of(recorded), &answers)
 }
 
-fn main() {
+fn main(rt: HostRuntime) -> io::Result<()> {
     let mut image = [0u8; IMAGE_ROOM];
     let mut recorded = [0u8; RECORD_ROOM];
-    let image_found = read_named(1, &mut image, &USAGE);
+    let image_found = read_named(&rt, 1, &mut image, USAGE)?;
     if !image_found.whole {
-        return;
+        return Ok(());
     }
-    let record_found = read_named(2, &mut recorded, &USAGE);
+    let record_found = read_named(&rt, 2, &mut recorded, USAGE)?;
     if !record_found.whole {
-        return;
+        return Ok(());
     }
     transcribe(
+        &rt,
         found_in(&image, image_found),
         found_in(&recorded, record_found),
-    );
+    )
 }

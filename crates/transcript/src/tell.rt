@@ -4,50 +4,37 @@ ghost use Rattle.std.specs.Prelude.{◌≤◌, length};
 use console::events::{say_answer, say_key};
 use console::words::{say, say_count};
 use session::session::Session;
+use std::io;
 
-// The ith event with its answer, if both are there.
-fn tell_ith(events: &[u8], answers: &[u32], i: usize) {
-    if i < events.len() {
-        if i < answers.len() {
-            say_key(events[i]);
-            say_answer(answers[i]);
-        }
+// Each event with its answer, as long as both are there.
+fn tell_each(out: &impl Print, events: &[u8], answers: &[u32]) -> io::Result<()> {
+    for (event, answer) in events.iter().zip(answers) {
+        say_key(out, *event)?;
+        say_answer(out, *answer)?;
     }
-}
-
-fn tell_each(events: &[u8], answers: &[u32]) {
-    let mut i = 0;
-    while i < events.len() {
-        tell_ith(events, answers, i);
-        i = i + 1;
-    }
+    Ok(())
 }
 
 // How many of some events are seconds.
 fn seconds_in(events: &[u8]) -> usize
     ensures { result ≤ length events.now }
 {
-    let mut count = 0;
-    let mut i = 0;
-    while i < events.len() {
-        if events[i] == Session::SECOND {
-            count = count + 1;
-        }
-        i = i + 1;
-    }
-    count
+    events
+        .iter()
+        .filter(|event| **event == Session::SECOND)
+        .count()
 }
 
-fn tell_counts(events: &[u8]) {
+fn tell_counts(out: &impl Print, events: &[u8]) -> io::Result<()> {
     let seconds = seconds_in(events);
-    say_count(events.len() - seconds, b"key");
-    say(b", ");
-    say_count(seconds, b"second");
-    say(b"\n");
+    say_count(out, events.len() - seconds, b"key")?;
+    say(out, b", ")?;
+    say_count(out, seconds, b"second")?;
+    say(out, b"\n")
 }
 
 // All that was pressed.
-pub fn tell(events: &[u8], answers: &[u32]) {
-    tell_each(events, answers);
-    tell_counts(events);
+pub fn tell(out: &impl Print, events: &[u8], answers: &[u32]) -> io::Result<()> {
+    tell_each(out, events, answers)?;
+    tell_counts(out, events)
 }

@@ -2,8 +2,10 @@
 // ../crates/vectors` in reference/ writes them.
 #![tactic(auto)]
 
-fn main() {
-    let mut image = io::large_buffer();
-    let mut sheet = io::large_buffer();
-    runner::run_cases(&mut image, &mut sheet);
+use std::io;
+
+fn main(rt: HostRuntime) -> io::Result<()> {
+    let mut image = [0u8; runner::ROOM];
+    let mut sheet = [0u8; runner::ROOM];
+    runner::run_cases(&rt, &mut image, &mut sheet)
 }
