@@ -7,7 +7,7 @@ use native.Mathlib.Omega.{arith}
 use native.Mathlib.Nat.{add_assoc}
 use lib.ListN.{length}
 use borrow.Author.Tests.{ne_eqb}
-use Rattle.laws.specs.Choice.{if◌then◌else◌, ◌=?◌}
+use Rattle.laws.specs.Choice.{when◌then◌else◌, ◌=?◌}
 use Rattle.laws.proofs.Cases.{if_true}
 use Rattle.field.specs.declared.record.Field.{Field}
 use Rattle.acceptance.specs.declared.index.Entry.{Entry}
@@ -53,8 +53,8 @@ pub record Then (x y : State) : Type 0 where
   pub after : fine y ≡ true
   pub is : and_then x y ≡ y
 
-then_by : (b : Bool) (x y : State) → fine x ≡ b → fine (if b then y else x) ≡ true → (b ≡ true) × (fine y ≡ true)
-unfolding if◌then◌else◌
+then_by : (b : Bool) (x y : State) → fine x ≡ b → fine (when b then y else x) ≡ true → (b ≡ true) × (fine y ≡ true)
+unfolding when◌then◌else◌
 then_by true x y e h = (refl, h)
 then_by false x y e h = clash h e
 

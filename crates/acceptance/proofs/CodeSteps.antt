@@ -9,7 +9,7 @@ use lib.ListN.{length, get_or, set, length-set}
 use lib.Seq.{get_or-set_same, get_or-set_other}
 use lib.Dec.{eqb, leb}
 use borrow.Author.Tests.{eq-eqb, ne_eqb, le-leb, lt-leb, eqb-true, eqb-false, leb-true, leb-false}
-use Rattle.laws.specs.Choice.{if◌then◌else◌, ◌and◌}
+use Rattle.laws.specs.Choice.{when◌then◌else◌, ◌and◌}
 use Rattle.laws.proofs.Cases.{by_test, if_ind, if_eq, if_ne, if_lt, and_i, and_false}
 use Rattle.cmf.specs.Readers.{title_at, head_at, component_at}
 use Rattle.cmf.specs.Places.{lines_from, lines_of, components_from, components_of}
@@ -173,7 +173,7 @@ module _ (im : List ℕ) (extent : ℕ) where
   module _
       (most k left p : ℕ) (s t : State) (c : Component) (h : 0 < left) (z : k ≡ most) (e : c ≡ component_at im p) (f : t ≡ take_component im extent k p c s) where
     components_one : on_components im extent most (components_from im left p) s
-        ≡ and_then t (on_components im extent most (if c.last then [] else components_from im (left - 1) c.next.0) t)
+        ≡ and_then t (on_components im extent most (when c.last then [] else components_from im (left - 1) c.next.0) t)
     unfolding components_from on_components on_component
     components_one =
         let g : t ≡ take_component im extent most p c s = f ∙ ap (λ (j : ℕ). take_component im extent j p c s) z in
@@ -183,12 +183,12 @@ module _ (im : List ℕ) (extent : ℕ) where
     components_stop n = components_one ∙ then_no _ _ n
 
     pub components_last : t.progress.refusal ≡ 0 → c.last ≡ true → on_components im extent most (components_from im left p) s ≡ t
-    unfolding on_components if◌then◌else◌
+    unfolding on_components when◌then◌else◌
     components_last y l = components_one ∙ then_yes _ _ y ∙ rw l
 
     pub components_next : t.progress.refusal ≡ 0 → c.last ≡ false
         → on_components im extent most (components_from im left p) s ≡ on_components im extent most (components_from im (left - 1) c.next.0) t
-    unfolding if◌then◌else◌
+    unfolding when◌then◌else◌
     components_next y l = components_one ∙ then_yes _ _ y ∙ rw l
 
   pub components_done : (most left p : ℕ) (s : State) → left ≤ 0 → on_components im extent most (components_from im left p) s ≡ s
@@ -233,12 +233,12 @@ module _ (im : List ℕ) (extent : ℕ) where
       line_submenu a = line_body y ∙ rw (← walked, ← e) (then_yes q _ a)
 
       pub line_plain : q.progress.refusal ≡ 0 → h.submenu ≡ false → q ≡ line
-      unfolding on_submenu if◌then◌else◌
+      unfolding on_submenu when◌then◌else◌
       line_plain a b = sym (line_submenu a ∙ rw b)
 
       pub line_deep : (k : ℕ) (t r : Progress) (ys : List ℕ) → k ≡ most → q.progress.refusal ≡ 0 → h.submenu ≡ true
           → seen t ys ≡ on_table im extent k below h.table.0 q → r ≡ past_line t q.progress.at → seen r ys ≡ line
-      unfolding on_submenu if◌then◌else◌
+      unfolding on_submenu when◌then◌else◌
       line_deep k t r ys z a b u i =
           let d : seen t ys ≡ on_table im extent most below h.table.0 q = u ∙ ap (λ (j : ℕ). on_table im extent j below h.table.0 q) z in
           rw i (sym (line_submenu a ∙ rw (b, ← d)))
@@ -246,11 +246,11 @@ module _ (im : List ℕ) (extent : ℕ) where
   -- ---- a table
 
   lines_here : (n p : ℕ) (h : Head) → n < 100 → h ≡ head_at im p
-      → lines_from im (100 - n) p ≡ p ∷ (if h.last then [] else lines_from im (100 - (n + 1)) h.next.0)
+      → lines_from im (100 - n) p ≡ p ∷ (when h.last then [] else lines_from im (100 - (n + 1)) h.next.0)
   unfolding lines_from
   lines_here n p h l e =
       ap (λ (k : ℕ). lines_from im k p) (hundred n l)
-      ∙ ap (λ (g : Head). p ∷ (if g.last then [] else lines_from im (100 - (n + 1)) g.next.0)) (sym e)
+      ∙ ap (λ (g : Head). p ∷ (when g.last then [] else lines_from im (100 - (n + 1)) g.next.0)) (sym e)
 
   module _
       (most k below n before p : ℕ) (s t : State) (l : n < 100) (z : k ≡ most) (f : t ≡ on_line im extent k (on_table im extent k below) n before p s) where
@@ -258,7 +258,7 @@ module _ (im : List ℕ) (extent : ℕ) where
     rest = on_lines im extent most (on_table im extent most below) n before (lines_from im (100 - n) p) s
 
     lines_one : (h : Head) → h ≡ head_at im p
-        → rest ≡ and_then t (on_lines im extent most (on_table im extent most below) (n + 1) p (if h.last then [] else lines_from im (100 - (n + 1)) h.next.0) t)
+        → rest ≡ and_then t (on_lines im extent most (on_table im extent most below) (n + 1) p (when h.last then [] else lines_from im (100 - (n + 1)) h.next.0) t)
     unfolding on_lines
     lines_one h e =
         let g : t ≡ on_line im extent most (on_table im extent most below) n before p s = f ∙ ap (λ (j : ℕ). on_line im extent j (on_table im extent j below) n before p s) z in
@@ -268,12 +268,12 @@ module _ (im : List ℕ) (extent : ℕ) where
     lines_stop b = lines_one (head_at im p) refl ∙ then_no _ _ b
 
     pub lines_last : (h : Head) → h ≡ head_at im p → t.progress.refusal ≡ 0 → h.last ≡ true → rest ≡ t
-    unfolding on_lines if◌then◌else◌
+    unfolding on_lines when◌then◌else◌
     lines_last h e y a = lines_one h e ∙ then_yes _ _ y ∙ rw a
 
     pub lines_next : (h : Head) → h ≡ head_at im p → t.progress.refusal ≡ 0 → h.last ≡ false
         → rest ≡ on_lines im extent most (on_table im extent most below) (n + 1) p (lines_from im (100 - (n + 1)) h.next.0) t
-    unfolding if◌then◌else◌
+    unfolding when◌then◌else◌
     lines_next h e y a = lines_one h e ∙ then_yes _ _ y ∙ rw a
 
   pub lines_done : (most below n before p : ℕ) (s : State) → 100 ≤ n

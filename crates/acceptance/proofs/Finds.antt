@@ -6,7 +6,7 @@ use mathlib.Core.List.{List, [], ◌++◌, append-nil}
 use native.Mathlib.Omega.{arith}
 use native.Mathlib.Nat.{add-zero, add_assoc}
 use lib.ListN.{length}
-use Rattle.laws.specs.Choice.{if◌then◌else◌, ◌=?◌}
+use Rattle.laws.specs.Choice.{when◌then◌else◌, ◌=?◌}
 use Rattle.laws.proofs.Cases.{by_test, if_ind, if_true, if_false, if_ne, if_eq}
 use Rattle.field.specs.declared.record.Field.{Field}
 use Rattle.cmf.specs.Limits.{most_lines_of_table, most_lines}
@@ -89,7 +89,7 @@ module _ (im : List ℕ) (A : Agree im) (extent most : ℕ) where
       one = on_component im extent most c (came_to at lines es)
 
       others : State
-      others = on_components im extent most (if (component_at im c).last then [] else components_from im k (component_at im c).next.0) one
+      others = on_components im extent most (when (component_at im c).last then [] else components_from im k (component_at im c).next.0) one
 
       on : fine one ≡ true → others.progress.refusal ≡ r → PartsFault at lines es r
       on b q = by_test (component_at im c).last last more
@@ -248,7 +248,7 @@ module _ (im : List ℕ) (A : Agree im) (extent most : ℕ) where
         one = on_line im extent most submenu n before p (came_to at lines es)
 
         others : State
-        others = on_lines im extent most submenu (n + 1) p (if (head_at im p).last then [] else lines_from im j (head_at im p).next.0) one
+        others = on_lines im extent most submenu (n + 1) p (when (head_at im p).last then [] else lines_from im j (head_at im p).next.0) one
 
         this : one.progress.refusal ≡ r → Fault (InLines im Sub Below n before at p) lines es r
         this q =

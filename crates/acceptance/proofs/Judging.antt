@@ -5,7 +5,7 @@ use mathlib.Core.Bool.{Bool, true, false}
 use mathlib.Core.List.{List}
 use native.Mathlib.Omega.{arith}
 use borrow.Author.Tests.{ltb-true, ltb-false, leb-true, leb-false, eqb-true, eqb-false}
-use Rattle.laws.specs.Choice.{if◌then◌else◌, ◌=?◌, ◌<?◌, ◌≤?◌}
+use Rattle.laws.specs.Choice.{when◌then◌else◌, ◌=?◌, ◌<?◌, ◌≤?◌}
 use Rattle.laws.specs.Bytes.{byte_at, word_at}
 use Rattle.laws.proofs.Cases.{if_ind, by_test, and_i, and_l, and_r}
 use Rattle.cmf.specs.Limits.{most_lines_of_table, most_lines}
@@ -70,14 +70,14 @@ even_place e = record { agrees = omega arith; after = omega arith; first = omega
 
 -- the check's answer at a title: 8 where it is whole and no level is left
 abbrev pub title_answer : List ℕ → ℕ → ℕ → ℕ
-title_answer im left t = if (title_at im t).refusal =? 0 then (if left =? 0 then 8 else 0) else (title_at im t).refusal
+title_answer im left t = when (title_at im t).refusal =? 0 then (when left =? 0 then 8 else 0) else (title_at im t).refusal
 
 module _ (im : List ℕ) (left t : ℕ) where
   title_least : (k : ℕ) → (6 < k → Cut im 1 t → ⊥) → (8 < k → left ≡ 0 → ⊥) → (j : ℕ) → TitleFault im left t j → k ≤ j
   title_least k a b j (TitleFault.cut c) = not_below k 6 (λ l. a l c)
   title_least k a b j (TitleFault.deep z) = not_below k 8 (λ l. b l z)
 
-  title_by_lem : (x : Title) → TitleView im t x → Judged (TitleFault im left t) (if x.refusal =? 0 then (if left =? 0 then 8 else 0) else x.refusal)
+  title_by_lem : (x : Title) → TitleView im t x → Judged (TitleFault im left t) (when x.refusal =? 0 then (when left =? 0 then 8 else 0) else x.refusal)
   title_by_lem x (TitleView.cut c e) =
       if_ind (Judged (TitleFault im left t)) (x.refusal =? 0) (λ q. let z = eqb-true x.refusal 0 q in absurd (omega arith))
       (λ _. at_fault 6 e (omega arith) (TitleFault.cut c) (title_least 6 (λ l. absurd (omega arith)) (λ l. absurd (omega arith))))

@@ -6,7 +6,7 @@ use mathlib.Core.Bool.{true, false}
 use mathlib.Core.List.{List, [], ◌∷◌, ◌++◌}
 use native.Mathlib.Omega.{arith}
 use lib.ListN.{length}
-use Rattle.laws.specs.Choice.{if◌then◌else◌}
+use Rattle.laws.specs.Choice.{when◌then◌else◌}
 use Rattle.laws.proofs.Cases.{by_test, if_true, if_false}
 use Rattle.field.specs.declared.record.Field.{Field}
 use Rattle.cmf.specs.Readers.{even_from, component_at}
@@ -108,7 +108,7 @@ module _ (im : List ℕ) (A : Agree im) (extent most : ℕ) where
       one : State
       one = on_component im extent most c (came_to at lines es)
 
-      t : Then one (on_components im extent most (if (component_at im c).last then [] else components_from im k (component_at im c).next.0) one)
+      t : Then one (on_components im extent most (when (component_at im c).last then [] else components_from im k (component_at im c).next.0) one)
       t = then_fine one _ f
 
       w : Taken im A extent most c at es

@@ -6,7 +6,7 @@ use mathlib.Core.List.{List, [], ◌∷◌, append-nil}
 use native.Mathlib.Omega.{arith}
 use lib.ListN.{length, length-append}
 use borrow.Author.Tests.{leb-false, eqb-true, eqb-false, eq-eqb}
-use Rattle.laws.specs.Choice.{if◌then◌else◌, ◌=?◌, ◌≤?◌}
+use Rattle.laws.specs.Choice.{when◌then◌else◌, ◌=?◌, ◌≤?◌}
 use Rattle.laws.specs.Bytes.{byte_at}
 use Rattle.laws.proofs.Cases.{if_ind, by_test, and_i, and_l, and_r, if_eq, if_ne, if_gt, if_true, if_false}
 use Rattle.field.specs.declared.record.Field.{Field}
@@ -141,8 +141,8 @@ module _ (im : List ℕ) (A : Agree im) (extent most : ℕ) where
 
       chosen : State
       chosen =
-          if c.fielded then take_field extent most c s
-          else if c.refusal =? 0 then with s (read_to s.progress c.end)
+          when c.fielded then take_field extent most c s
+          else when c.refusal =? 0 then with s (read_to s.progress c.end)
           else with s (refused s.progress c.refusal)
 
       field : c.fielded ≡ true → chosen ≡ came_to c.end lines (put es (held_by c))

@@ -6,7 +6,7 @@ use mathlib.Core.Bool.{true, false}
 use mathlib.Core.List.{List, [], ◌∷◌, ◌++◌}
 use native.Mathlib.Omega.{arith}
 use native.Mathlib.Nat.{add_assoc}
-use Rattle.laws.specs.Choice.{if◌then◌else◌}
+use Rattle.laws.specs.Choice.{when◌then◌else◌}
 use Rattle.laws.proofs.Cases.{by_test, if_true, if_false}
 use Rattle.field.specs.declared.record.Field.{Field}
 use Rattle.cmf.specs.Limits.{most_lines_of_table, most_lines}
@@ -104,7 +104,7 @@ module _ (im : List ℕ) (A : Agree im) (extent most : ℕ) where
         one : State
         one = on_line im extent most submenu n before p (came_to at lines es)
 
-        t : Then one (on_lines im extent most submenu (n + 1) p (if (head_at im p).last then [] else lines_from im j (head_at im p).next.0) one)
+        t : Then one (on_lines im extent most submenu (n + 1) p (when (head_at im p).last then [] else lines_from im j (head_at im p).next.0) one)
         t = then_fine one _ f
 
         x : LineRead im A extent most submenu Sub n before p at lines es

@@ -2,7 +2,7 @@
 -- which goes from line to line, at each through its components and then down into its submenu. What it meets
 -- first is refused, and of several faults there the one with the lowest number.
 use Rattle.std.specs.Prelude.{ℕ, zero, suc, ◌+◌, Bool, true, false, List, [], ◌∷◌, ◌++◌, length}
-use Rattle.laws.specs.Choice.{if◌then◌else◌, ◌and◌, ◌=?◌, ◌<?◌, ◌≤?◌}
+use Rattle.laws.specs.Choice.{when◌then◌else◌, ◌and◌, ◌=?◌, ◌<?◌, ◌≤?◌}
 use Rattle.laws.specs.Bytes.{byte_at, room}
 use Rattle.field.specs.Sheet.{size_of}
 use Rattle.field.specs.declared.record.Field.{Field}
@@ -43,7 +43,7 @@ read_to w at = record { refusal = 0; at = at; lines = w.lines; fields = w.fields
 abbrev pub past_line : Progress → ℕ → Progress
 past_line w at = record {
   refusal = w.refusal;
-  at = if w.refusal =? 0 then at
+  at = when w.refusal =? 0 then at
       else w.at;
   lines = w.lines;
   fields = w.fields;
@@ -51,17 +51,17 @@ past_line w at = record {
 
 -- the second, unless the first is a refusal
 unfoldable pub and_then : State → State → State
-and_then x y = if fine x then y else x
+and_then x y = when fine x then y else x
 
 -- R6: what is at `place`, which is `at` or the byte after it, follows what ended at `at`, at once or after
 -- one zero byte
 unfoldable pub padded : List ℕ → ℕ → ℕ → Bool
-padded im at place = if at =? place then true else byte_at im at =? 0
+padded im at place = when at =? place then true else byte_at im at =? 0
 
 -- ---- a table's title
 
 unfoldable pub take_title : Title → Progress → Progress
-take_title t w = if t.refusal =? 0 then read_to w t.end else refused w t.refusal
+take_title t w = when t.refusal =? 0 then read_to w t.end else refused w t.refusal
 
 -- ---- a line's head
 
@@ -69,8 +69,8 @@ take_title t w = if t.refusal =? 0 then read_to w t.end else refused w t.refusal
 -- lines of the table come before
 unfoldable pub agrees : List ℕ → ℕ → ℕ → ℕ → Bool
 agrees im n before p =
-    if n =? 0 then first_at im p
-    else if first_at im p then false
+    when n =? 0 then first_at im p
+    else when first_at im p then false
     else before + back_at im p =? p
 
 -- R6, R7, R8: a line is where the one before leads and at the first odd place
@@ -80,14 +80,14 @@ line_placed im n before p w = (p =? odd_from w.at) and (padded im w.at p and agr
 -- 01, row 8: the 100th line of its table or the 1,025th of the walk is at fault; row 9: so is a bad password
 unfoldable pub count_line : ℕ → Head → Progress → Progress
 count_line n h w =
-    if most_lines_of_table ≤? n then refused w 8
-    else if most_lines ≤? w.lines then refused w 8
-    else if h.typeable then record { refusal = 0; at = h.end; lines = w.lines + 1; fields = w.fields }
+    when most_lines_of_table ≤? n then refused w 8
+    else when most_lines ≤? w.lines then refused w 8
+    else when h.typeable then record { refusal = 0; at = h.end; lines = w.lines + 1; fields = w.fields }
     else refused w 9
 
 unfoldable pub take_line : List ℕ → ℕ → ℕ → ℕ → Head → Progress → Progress
 take_line im n before p h w =
-    if h.refusal =? 0 then (if line_placed im n before p w then count_line n h w else refused w 7)
+    when h.refusal =? 0 then (when line_placed im n before p w then count_line n h w else refused w 7)
     else refused w h.refusal
 
 -- ---- a component
@@ -102,9 +102,9 @@ in_sheet extent e = (extent ≤? longest_sheet) and room extent e.from.0 e.size
 -- 01, row 11: two fields share no byte if either has none or one ends where the other begins or before
 unfoldable pub apart : Entry → Entry → Bool
 apart e f =
-    if e.size =? 0 then true
-    else if f.size =? 0 then true
-    else if (e.from.0 + e.size) ≤? f.from.0 then true
+    when e.size =? 0 then true
+    else when f.size =? 0 then true
+    else when (e.from.0 + e.size) ≤? f.from.0 then true
     else (f.from.0 + f.size) ≤? e.from.0
 
 -- a field shares no byte with any of the earlier ones
@@ -116,10 +116,10 @@ apart_from e (f ∷ fs) = apart e f and apart_from e fs
 -- settings, 10 and 11 for its bytes in the sheet
 unfoldable pub take_field : ℕ → ℕ → Component → State → State
 take_field extent most c s =
-    if most ≤? s.progress.fields then with s (refused s.progress 8)
-    else if c.refusal =? 0 then
-    (if in_sheet extent (entry_of c.field) then
-    (if apart_from (entry_of c.field) s.fields then
+    when most ≤? s.progress.fields then with s (refused s.progress 8)
+    else when c.refusal =? 0 then
+    (when in_sheet extent (entry_of c.field) then
+    (when apart_from (entry_of c.field) s.fields then
     state (record { refusal = 0; at = c.end; lines = s.progress.lines; fields = s.progress.fields + 1 })
     (s.fields ++ (entry_of c.field ∷ []))
     else with s (refused s.progress 11))
@@ -129,10 +129,10 @@ take_field extent most c s =
 -- a component at a place: 6 first, then 7 for the padding before it
 unfoldable pub take_component : List ℕ → ℕ → ℕ → ℕ → Component → State → State
 take_component im extent most p c s =
-    if c.refusal =? 6 then with s (refused s.progress 6)
-    else if padded im s.progress.at p then
-    (if c.fielded then take_field extent most c s
-    else if c.refusal =? 0 then with s (read_to s.progress c.end)
+    when c.refusal =? 6 then with s (refused s.progress 6)
+    else when padded im s.progress.at p then
+    (when c.fielded then take_field extent most c s
+    else when c.refusal =? 0 then with s (read_to s.progress c.end)
     else with s (refused s.progress c.refusal))
     else with s (refused s.progress 7)
 
@@ -155,7 +155,7 @@ module _ (im : List ℕ) (extent most : ℕ) where
   module _ (submenu : ℕ → State → State) where
     -- a line's submenu; the walk then goes on after the line
     unfoldable pub on_submenu : Head → State → State
-    on_submenu h s = if h.submenu then with (submenu h.table.0 s)
+    on_submenu h s = when h.submenu then with (submenu h.table.0 s)
         (past_line (submenu h.table.0 s).progress s.progress.at) else s
 
     unfoldable pub on_body : ℕ → State → State
@@ -188,18 +188,18 @@ walked im extent = on_table im extent most_fields deepest_table prolog_bytes sta
 -- 01, rows 2 to 5: the prolog
 unfoldable pub prolog_code : List ℕ → ℕ
 prolog_code im =
-    if length im <? prolog_bytes then 2
-    else if longest_image <? length im then 2
-    else if (byte_at im 0 =? 0x43) and ((byte_at im 1 =? 0x4d) and (byte_at im 2 =? 0x46)) then
-    (if (byte_at im 3 =? 0) and (byte_at im 4 =? 4) then
-    (if (byte_at im 8 =? 0xff) and (byte_at im 9 =? 0xfe) then 0 else 5)
+    when length im <? prolog_bytes then 2
+    else when longest_image <? length im then 2
+    else when (byte_at im 0 =? 0x43) and ((byte_at im 1 =? 0x4d) and (byte_at im 2 =? 0x46)) then
+    (when (byte_at im 3 =? 0) and (byte_at im 4 =? 4) then
+    (when (byte_at im 8 =? 0xff) and (byte_at im 9 =? 0xfe) then 0 else 5)
     else 4)
     else 3
 
 -- the refusal number of an image for a sheet of so many bytes, 0 for none, with the fields that were taken
 unfoldable pub checked : List ℕ → ℕ → State
 checked im extent =
-    if prolog_code im =? 0 then walked im extent
+    when prolog_code im =? 0 then walked im extent
     else with start (refused start.progress (prolog_code im))
 
 unfoldable pub refusal_of : List ℕ → ℕ → ℕ

@@ -1,6 +1,6 @@
 -- The reached fields in an array of numbers, three to a field, as a list of entries in the order of the walk.
 use Rattle.std.specs.Prelude.{ℕ, zero, suc, ◌+◌, ◌*◌, ◌/◌, List, [], ◌∷◌, ◌++◌, map, length, get_or, set}
-use Rattle.laws.specs.Choice.{if◌then◌else◌, ◌<?◌}
+use Rattle.laws.specs.Choice.{when◌then◌else◌, ◌<?◌}
 use Rattle.laws.specs.Overwrite.{fit}
 use Rattle.cmf.specs.Limits.{most_fields}
 use Rattle.acceptance.specs.Check.{State, state}
@@ -16,7 +16,7 @@ capacity xs = length xs / 3
 
 -- the k-th entry; zeros past the capacity
 unfoldable pub entry_at : List ℕ → ℕ → Entry
-entry_at xs k = if k <? capacity xs then entry (get_or xs (3 * k) 0) (get_or xs (3 * k + 1) 0)
+entry_at xs k = when k <? capacity xs then entry (get_or xs (3 * k) 0) (get_or xs (3 * k + 1) 0)
     (get_or xs (3 * k + 2) 0) else entry 0 0 0
 
 -- the first k entries
@@ -31,7 +31,7 @@ places_in xs k = map (λ (e : Entry). e.place.0) (listed xs k)
 -- the array with its k-th entry set; as it was past the capacity
 unfoldable pub with_entry : List ℕ → ℕ → Entry → List ℕ
 with_entry xs k e =
-    if k <? capacity xs then set (set (set xs (3 * k) e.place.0) (3 * k + 1) e.from.0) (3 * k + 2)
+    when k <? capacity xs then set (set (set xs (3 * k) e.place.0) (3 * k + 1) e.from.0) (3 * k + 2)
     e.size else xs
 
 -- the walk's state as the code has it

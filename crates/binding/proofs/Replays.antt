@@ -5,7 +5,7 @@ use mathlib.Core.List.{List}
 use native.Mathlib.Omega.{arith}
 use lib.ListN.{length}
 use borrow.Author.Tests.{eq-eqb, ne_eqb, eqb-true, eqb-false}
-use Rattle.laws.specs.Choice.{if◌then◌else◌, ◌=?◌}
+use Rattle.laws.specs.Choice.{when◌then◌else◌, ◌=?◌}
 use Rattle.laws.proofs.Cases.{by_test, if_eq, if_ne}
 use Rattle.session_bytes.specs.Layout.{session_bytes, session_written, session_from}
 use Rattle.session_bytes.proofs.Layouts.{written}
@@ -89,7 +89,7 @@ module _ (im sheet : List ℕ) (columns lines a b : ℕ) (p : a ≡ min columns 
         let u : 12 unless (length bs =? 230) ≡ 12 = failing 12 _ (ne_eqb (length bs) 230 h) in
         let g : k ≡ play_refusal im (length sheet) columns lines rec (length list) before 12 = rw (refusal_wide (length sheet) (length list)) at f in
         let z : k ≡ 0 → ⊥ = λ z. omega (arith, (none_before (play_refusal im (length sheet) columns lines rec (length list)) 12 (sym g ∙ z)).1) in
-        sym (rw (u, ← g, if_ne k 0 (length (events_of rec)) (if k =? 0 then 0 else 16777216 + k) z) (if_ne k 0 _ _ z))
+        sym (rw (u, ← g, if_ne k 0 (length (events_of rec)) (when k =? 0 then 0 else 16777216 + k) z) (if_ne k 0 _ _ z))
 
     pub unsized : (k : ℕ) → k ≡ play_refusal im (length sheet) a b rec (length list) before 12
         → (16777216 + k ≡ play_number im (length sheet) columns lines rec (length list) (length bs))

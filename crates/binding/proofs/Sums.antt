@@ -5,7 +5,7 @@ use mathlib.Core.List.{List, [], ◌∷◌}
 use native.Mathlib.Omega.{arith}
 use lib.ListN.{length, set}
 use borrow.Author.Tests.{eqb-true, eqb-false}
-use Rattle.laws.specs.Choice.{if◌then◌else◌, ◌=?◌}
+use Rattle.laws.specs.Choice.{when◌then◌else◌, ◌=?◌}
 use Rattle.laws.proofs.Cases.{by_test, if_true, if_false, if_eq, if_ne}
 use Rattle.handset.specs.Refusals.{◌unless◌}
 use Rattle.handset.proofs.Ordering.{first_given, next_given}
@@ -33,11 +33,11 @@ module _ (im sheet key sums : List ℕ) where
         by_test (mark_refusal im (length sheet) key =? 0) (λ t. eqb-true _ 0 t)
         (λ t. absurd (omega (arith, ap (λ (m : Marked). length (sums_in m)) e, ap length ((marker_promises im).refused sheet key (eqb-false _ 0 t)).1)))
 
-    room_only : sums_refusal im (length sheet) key (length sums) ≡ (if length sums =? 3 then 0 else 25)
+    room_only : sums_refusal im (length sheet) key (length sums) ≡ (when length sums =? 3 then 0 else 25)
     unfolding sums_refusal ◌unless◌
     room_only = next_given _ _ granted
 
-    pub number_given : (r : ℕ) → r ≡ (if length sums =? 3 then 0 else refused_room) → r ≡ mark_number im (length sheet) key (length sums)
+    pub number_given : (r : ℕ) → r ≡ (when length sums =? 3 then 0 else refused_room) → r ≡ mark_number im (length sheet) key (length sums)
     unfolding mark_number refused_by
     number_given r h =
         by_test (length sums =? 3)
@@ -45,7 +45,7 @@ module _ (im sheet key sums : List ℕ) where
         (λ t. let k : sums_refusal im (length sheet) key (length sums) ≡ 25 = room_only ∙ if_false _ _ t in
         h ∙ if_false _ _ t ∙ sym (rw k (if_ne 25 0 _ _ (λ z. omega arith))))
 
-    pub sums_given : (t : List ℕ) → t ≡ (if length sums =? 3 then a ∷ b ∷ c ∷ [] else sums) → t ≡ marked_sums im sheet key sums
+    pub sums_given : (t : List ℕ) → t ≡ (when length sums =? 3 then a ∷ b ∷ c ∷ [] else sums) → t ≡ marked_sums im sheet key sums
     unfolding marked_sums sums_in
     sums_given t h =
         by_test (length sums =? 3)

@@ -7,7 +7,7 @@ use native.Mathlib.Nat.{min-eq_left, min-eq_right}
 use native.Mathlib.Omega.{arith}
 use lib.ListN.{length}
 use borrow.Author.Tests.{le-leb, lt-leb, leb-true, leb-false, eqb-true, eqb-false}
-use Rattle.laws.specs.Choice.{if◌then◌else◌, ◌=?◌, ◌≤?◌}
+use Rattle.laws.specs.Choice.{when◌then◌else◌, ◌=?◌, ◌≤?◌}
 use Rattle.laws.proofs.Cases.{by_test, if_false, and_l, and_r}
 use Rattle.session.specs.Session.{opened, closed}
 use Rattle.session.specs.Fits.{shape_fits}
@@ -87,7 +87,7 @@ module _ (columns lines a b : ℕ) (p : a ≡ min columns 255) (q : b ≡ min li
       rw (p, q, min-eq_left {n = columns} {m = 255} (omega arith), min-eq_left {n = lines} {m = 255} (omega arith))
 
   session_wide : (im : List ℕ) (n : ℕ)
-      → (if open_refusal im n columns lines =? 0 then opened a b else closed) ≡ (if open_refusal im n columns lines =? 0 then opened columns lines else closed)
+      → (when open_refusal im n columns lines =? 0 then opened a b else closed) ≡ (when open_refusal im n columns lines =? 0 then opened columns lines else closed)
   session_wide im n =
       let k = open_refusal im n columns lines in
       by_test (k =? 0)

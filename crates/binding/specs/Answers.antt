@@ -1,11 +1,11 @@
 -- The answers as numbers.
 use Rattle.std.specs.Prelude.{ℕ, ◌+◌, ◌*◌, List, [], ◌∷◌}
-use Rattle.laws.specs.Choice.{if◌then◌else◌, ◌=?◌}
+use Rattle.laws.specs.Choice.{when◌then◌else◌, ◌=?◌}
 use Rattle.session.specs.Answers.{refused_from}
 
 -- a refusal's number with 16,777,216 added, as in an answer; 0 where nothing is refused
 unfoldable pub refused_by : ℕ → ℕ
-refused_by k = if k =? 0 then 0 else refused_from + k
+refused_by k = when k =? 0 then 0 else refused_from + k
 
 -- an edit cursor's number counts from here
 abbrev pub cursor_from : ℕ

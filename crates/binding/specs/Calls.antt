@@ -1,6 +1,6 @@
 -- The four calls over bytes: each is the call of `handset` on the session that the bytes are.
 use Rattle.std.specs.Prelude.{ℕ, ◌+◌, ◌*◌, List, length}
-use Rattle.laws.specs.Choice.{if◌then◌else◌, ◌=?◌}
+use Rattle.laws.specs.Choice.{when◌then◌else◌, ◌=?◌}
 use Rattle.session.specs.Session.{closed}
 use Rattle.session.specs.declared.session.Session.{Session}
 use Rattle.session_bytes.specs.Layout.{session_size, session_bytes, session_from, session_written}
@@ -18,7 +18,7 @@ open_number im extent columns lines n =
     refused_by (open_refusal im extent columns lines before (12 unless (n =? session_size)))
 
 unfoldable pub opened_sheet : List ℕ → List ℕ → ℕ → ℕ → ℕ → List ℕ
-opened_sheet im sheet columns lines n = if n =? session_size then open_sheet im sheet columns lines else sheet
+opened_sheet im sheet columns lines n = when n =? session_size then open_sheet im sheet columns lines else sheet
 
 -- the session, closed where it is refused
 unfoldable pub opened_bytes : List ℕ → ℕ → ℕ → ℕ → List ℕ → List ℕ
@@ -28,7 +28,7 @@ opened_bytes im extent columns lines bs =
 -- the session that the bytes then are, as Open gives it; no buffer of another length is a session that fits
 unfoldable pub opened_session : List ℕ → ℕ → ℕ → ℕ → ℕ → Session
 opened_session im extent columns lines n =
-    if n =? session_size then (open_answer im extent columns lines).session else closed
+    when n =? session_size then (open_answer im extent columns lines).session else closed
 
 -- ---- Event: the session that the bytes then are is that of `event_step`
 
@@ -38,7 +38,7 @@ event_number im sheet bs e = event_answer im sheet (session_from bs) e
 -- the next session; a refused Event leaves every byte of the session it got
 unfoldable pub event_bytes : List ℕ → List ℕ → List ℕ → ℕ → List ℕ
 event_bytes im sheet bs e =
-    if event_refusal im (length sheet) (session_from bs) e =? 0
+    when event_refusal im (length sheet) (session_from bs) e =? 0
     then session_bytes (event_step im sheet (session_from bs) e).session
     else bs
 
@@ -46,7 +46,7 @@ event_bytes im sheet bs e =
 
 unfoldable pub draw_number : List ℕ → ℕ → List ℕ → ℕ → ℕ
 draw_number im extent bs n =
-    if draw_refusal im extent (session_from bs) n =? 0
+    when draw_refusal im extent (session_from bs) n =? 0
     then cursor_number (draw_cursor im extent (session_from bs) n)
     else refused_by (draw_refusal im extent (session_from bs) n)
 
@@ -62,6 +62,6 @@ text_refused_from = 4294967296
 
 unfoldable pub text_number : List ℕ → ℕ → ℕ → ℕ → ℕ
 text_number im extent place item =
-    if text_refusal im extent place item =? 0
+    when text_refusal im extent place item =? 0
     then place_factor * (text_place im extent place item).start.0 + (text_place im extent place item).length
     else text_refused_from + text_refusal im extent place item

@@ -1,6 +1,6 @@
 -- The desk's calls over C's buffers.
 use Rattle.std.specs.Prelude.{ℕ, ◌+◌, List, length}
-use Rattle.laws.specs.Choice.{if◌then◌else◌, ◌=?◌}
+use Rattle.laws.specs.Choice.{when◌then◌else◌, ◌=?◌}
 use Rattle.session.specs.Answers.{refused_from}
 use Rattle.handset.specs.Refusals.{◌before◌, ◌unless◌}
 use Rattle.session.specs.Session.{closed}
@@ -22,7 +22,7 @@ mark_number im extent key n = refused_by (sums_refusal im extent key n)
 -- the sums right, wrong, blank; a refusal alters none of the room
 unfoldable pub marked_sums : List ℕ → List ℕ → List ℕ → List ℕ → List ℕ
 marked_sums im sheet key sums =
-    if sums_refusal im (length sheet) key (length sums) =? 0 then sums_in (marked im sheet key) else sums
+    when sums_refusal im (length sheet) key (length sums) =? 0 then sums_in (marked im sheet key) else sums
 
 -- what is answered for room of the wrong length
 abbrev pub refused_room : ℕ
@@ -33,7 +33,7 @@ refused_room = refused_from + 25
 -- the record's length, or the refusal; the room afterwards is `recorded_in`
 unfoldable pub record_number : List ℕ → ℕ → ℕ
 record_number es room =
-    if recording_refusal es room =? 0 then length (record_of es) else refused_by (recording_refusal es room)
+    when recording_refusal es room =? 0 then length (record_of es) else refused_by (recording_refusal es room)
 
 -- ---- playing, with a session buffer of n bytes: one of another length is refused with 12, after all else,
 -- and then nothing is written
@@ -45,16 +45,16 @@ sized_refusal im extent columns lines rec room n =
 -- the number of events, or the refusal
 unfoldable pub play_number : List ℕ → ℕ → ℕ → ℕ → List ℕ → ℕ → ℕ → ℕ
 play_number im extent columns lines rec room n =
-    if sized_refusal im extent columns lines rec room n =? 0 then length (events_of rec)
+    when sized_refusal im extent columns lines rec room n =? 0 then length (events_of rec)
     else refused_by (sized_refusal im extent columns lines rec room n)
 
 unfoldable pub played_sheet : List ℕ → List ℕ → ℕ → ℕ → List ℕ → ℕ → ℕ → List ℕ
 played_sheet im sheet columns lines rec room n =
-    if n =? session_size then play_sheet im sheet columns lines rec room else sheet
+    when n =? session_size then play_sheet im sheet columns lines rec room else sheet
 
 unfoldable pub played_list : List ℕ → List ℕ → ℕ → ℕ → List ℕ → List ℕ → ℕ → List ℕ
 played_list im sheet columns lines rec list n =
-    if n =? session_size then play_list im sheet columns lines rec list else list
+    when n =? session_size then play_list im sheet columns lines rec list else list
 
 -- the session's bytes: those of a closed one where the replay is refused
 unfoldable pub played_bytes : List ℕ → List ℕ → ℕ → ℕ → List ℕ → ℕ → List ℕ → List ℕ
@@ -64,4 +64,4 @@ played_bytes im sheet columns lines rec room bs =
 -- the session that the bytes then are; no buffer of another length is a session that fits
 unfoldable pub played_session : List ℕ → List ℕ → ℕ → ℕ → List ℕ → ℕ → ℕ → Session
 played_session im sheet columns lines rec room n =
-    if n =? session_size then (play_answer im sheet columns lines rec room).session else closed
+    when n =? session_size then (play_answer im sheet columns lines rec room).session else closed

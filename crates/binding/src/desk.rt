@@ -1,6 +1,6 @@
 // The calls that C sees at the desk: handset_mark, handset_record and handset_play.
 ghost use Rattle.std.specs.Prelude.{◌≡◌, [], ◌∷◌, length};
-ghost use Rattle.laws.specs.Choice.{if◌then◌else◌, ◌=?◌};
+ghost use Rattle.laws.specs.Choice.{when◌then◌else◌, ◌=?◌};
 ghost use Rattle.session_bytes.specs.Layout.{session_from};
 ghost use Rattle.handset.specs.Refusals.{◌before◌};
 ghost use Rattle.record.specs.Forms.{recorded_in};
@@ -19,9 +19,9 @@ use session_bytes::write::write_session;
 
 // Writes the sums to room for three; the number of the answer.
 fn give(sums: &mut [u32], right: u32, wrong: u32, blank: u32) -> u32
-    ensures value { result ≡ (if length sums.old =? 3 then 0 else refused_room) }
+    ensures value { result ≡ (when length sums.old =? 3 then 0 else refused_room) }
     ensures sums_after { sums.new
-        ≡ (if length sums.old =? 3 then right ∷ wrong ∷ blank ∷ [] else sums.old) }
+        ≡ (when length sums.old =? 3 then right ∷ wrong ∷ blank ∷ [] else sums.old) }
 {
     if sums.len() == 3 {
         sums[0] = right;

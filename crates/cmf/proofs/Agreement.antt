@@ -5,7 +5,7 @@ use mathlib.Core.Bool.{true, false}
 use mathlib.Core.List.{List}
 use lib.ListN.{length}
 use Rattle.laws.specs.Bytes.{byte_at}
-use Rattle.laws.specs.Choice.{if◌then◌else◌, ◌=?◌}
+use Rattle.laws.specs.Choice.{when◌then◌else◌, ◌=?◌}
 use Rattle.field.specs.declared.record.Field.{Field}
 use Rattle.cmf.specs.Layouts.{Text, Aligned, Component, code, edit_bit, last_bit}
 use Rattle.cmf.specs.Grammar.{Head, Password, is_last, has_submenu, has_password, next_line, submenu_table, password_at}
@@ -23,7 +23,7 @@ pub record ComponentReads (im : List ℕ) (at : ℕ) : Type 0 where
   pub component : Component im at (component_at im at).end (held_by (component_at im at))
   pub last : (component_at im at).last ≡ true → last_bit im at ≡ 1
   pub more : (component_at im at).last ≡ false → last_bit im at ≡ 0
-  pub editable : (component_at im at).editable ≡ (if code im at =? 0x17 then true else edit_bit im at =? 1)
+  pub editable : (component_at im at).editable ≡ (when code im at =? 0x17 then true else edit_bit im at =? 1)
   pub next : (component_at im at).next.0 ≡ even_from (component_at im at).end
   pub after : at < (component_at im at).end
   pub inside : (component_at im at).end ≤ length im

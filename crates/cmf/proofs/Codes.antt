@@ -7,7 +7,7 @@ use mathlib.Core.List.{List, [], ◌∷◌}
 use lib.Dec.{lit≤}
 use native.Mathlib.Omega.{arith}
 use borrow.Author.Tests.{ltb-false, leb-true, eqb-true, eqb-false, eq-eqb, ne_eqb, lt-ltb, le-leb}
-use Rattle.laws.specs.Choice.{if◌then◌else◌, ◌and◌, ◌=?◌, ◌<?◌, ◌≤?◌}
+use Rattle.laws.specs.Choice.{when◌then◌else◌, ◌and◌, ◌=?◌, ◌<?◌, ◌≤?◌}
 use Rattle.laws.specs.Bytes.{byte_at}
 use Rattle.laws.proofs.Cases.{if_ind, if_true, if_lt, if_le, if_ne, by_test, and_i, and_l, and_r}
 use Rattle.laws.proofs.Tables.{passes}
@@ -27,20 +27,20 @@ use Rattle.cmf.proofs.Parts.{Laid, laid_after, laid_inside, laid_read, read_laid
 
 -- 7.5.1 to 7.5.11: an integer's bytes are its default's and six more
 pub integer_bytes : (c e : ℕ) → c ≤ 0x0a → fixed_bytes c e ≡ 6 + (profile_of (Integer (format_of c))).bytes
-unfolding fixed_bytes profile_of format_of ◌and◌ if◌then◌else◌
+unfolding fixed_bytes profile_of format_of ◌and◌ when◌then◌else◌
 integer_bytes c e h = eqb-true _ _ (passes (λ (n : ℕ). fixed_bytes n e =? 6 + (profile_of (Integer (format_of n))).bytes) 11 refl c (omega arith))
 
 module _ (im : List ℕ) where
   -- the field of a code that is one
   abbrev pub fields_by : ℕ → ℕ → List Field
-  fields_by at c = if (if c =? 0x15 then false else true) then field_by im at c ∷ [] else []
+  fields_by at c = when (when c =? 0x15 then false else true) then field_by im at c ∷ [] else []
 
   -- the field of an integer's code
   abbrev pub integer_by : ℕ → ℕ → Field
   integer_by at c = field_with im at (Integer (format_of c)) (at + 6)
 
   pub integer_field : (at c : ℕ) → c ≤ 0x0a → field_by im at c ≡ integer_by at c
-  unfolding kind_at default_place sheet_place_at if◌then◌else◌
+  unfolding kind_at default_place sheet_place_at when◌then◌else◌
   integer_field at c h =
       simp (le-leb c 0x0a h, lt-ltb c 0x15 (omega arith), ne_eqb c 0x0d (λ e. omega arith), ne_eqb c 0x13 (λ e. omega arith), ne_eqb c 0x14 (λ e. omega arith))
 
@@ -78,7 +78,7 @@ module _ (im : List ℕ) where
 
   -- every row is laid out by its code and has its field
   row : {at end : ℕ} {fs : List Field} → Component im at end fs → Row at (code im at) end fs
-  unfolding fixed_bytes text_count given kind_at default_place sheet_place_at profile_of settings_fit kind_fits in_range in_span all_within cells_of within cell_of ◌and◌ if◌then◌else◌
+  unfolding fixed_bytes text_count given kind_at default_place sheet_place_at profile_of settings_fit kind_fits in_range in_span all_within cells_of within cell_of ◌and◌ when◌then◌else◌
   row (Component.integer k w g) = integer_row _ k w g
   row (Component.counter k w g) = rw k (record { laid = fixed_laid 0x0d (lit≤ tt) refl w refl g.good; fields = refl })
   row (Component.time_long k w g) = rw k (record { laid = fixed_laid 0x0f (lit≤ tt) refl w refl g.good; fields = refl })
@@ -147,7 +147,7 @@ module _ (im : List ℕ) where
 
     -- the code leads to the row, and a code that is not given to none
     made : (t : Run) → given im at (code im at) (edit_bit im at) t ≡ true → Makes (code im at)
-    unfolding fixed_bytes text_count given kind_at default_place sheet_place_at profile_of if◌then◌else◌
+    unfolding fixed_bytes text_count given kind_at default_place sheet_place_at profile_of when◌then◌else◌
     made t =
         if_ind Sound (code im at ≤? 0x0a) (λ q e. integer (code im at) refl (leb-true _ _ q))
         (λ _. if_ind Sound (code im at =? 0x0d) (λ q e. at_code 0x0d counter q)

@@ -6,7 +6,7 @@ use mathlib.Core.List.{List, [], ◌∷◌}
 use lib.Dec.{lit≤}
 use lib.ListN.{length, set}
 use native.Mathlib.Omega.{arith}
-use Rattle.laws.specs.Choice.{if◌then◌else◌, ◌and◌}
+use Rattle.laws.specs.Choice.{when◌then◌else◌, ◌and◌}
 use Rattle.laws.specs.Bytes.{byte_at, word_at}
 use Rattle.laws.specs.Digits.{from_low, number_from}
 use Rattle.laws.specs.Overwrite.{fit}
@@ -68,7 +68,7 @@ logs = record {
 
 -- the default of the option is one of its items
 good : GoodSettings (option_at image 24)
-unfolding settings_fit kind_fits in_range in_span all_within cells_of within cell_of profile_of number_of from_low number_from fit ◌and◌ if◌then◌else◌
+unfolding settings_fit kind_fits in_range in_span all_within cells_of within cell_of profile_of number_of from_low number_from fit ◌and◌ when◌then◌else◌
 good = record { good = refl }
 
 items : Texts image 2 34 41 3

@@ -7,7 +7,7 @@ use mathlib.Core.List.{List, []}
 use native.Mathlib.Omega.{arith}
 use lib.ListN.{length}
 use borrow.Author.Tests.{lt-ltb, le-ltb, ltb-true, ltb-false}
-use Rattle.laws.specs.Choice.{if◌then◌else◌, ◌<?◌}
+use Rattle.laws.specs.Choice.{when◌then◌else◌, ◌<?◌}
 use Rattle.laws.proofs.Cases.{by_test, if_ind, if_true, if_false, if_lt, if_ge, if_eq, if_ne}
 use Rattle.field.specs.declared.kind.ImagePlace.{ImagePlace}
 use Rattle.cmf.specs.Readers.{title_at, head_at, component_at}
@@ -63,7 +63,7 @@ module _ (im : List ℕ) where
   reach_far t k h = sym (if_ge k (line_count im t) _ _ (omega (arith, lines_few im t)))
 
   module _ (m left p : ℕ) (h : Head) (l : 0 < left) (e : h ≡ head_at im p) where
-    lines_one : length (lines_from im (m + left) p) ≡ suc (length (if h.last then [] else lines_from im (m + (left - 1)) h.next.0))
+    lines_one : length (lines_from im (m + left) p) ≡ suc (length (when h.last then [] else lines_from im (m + (left - 1)) h.next.0))
     unfolding lines_from
     lines_one = let z : m + left ≡ suc (m + (left - 1)) = omega arith in rw (z, e)
 
@@ -86,7 +86,7 @@ module _ (im : List ℕ) where
   reach_here m left p h l =
       let z : left ≡ 0 = omega arith in
       let y : m + left ≡ suc (m - 1) = omega arith in
-      rw (y, z) (if_lt 0 (suc (length (if (head_at im p).last then [] else lines_from im (m - 1) (head_at im p).next.0))) _ _ (omega arith))
+      rw (y, z) (if_lt 0 (suc (length (when (head_at im p).last then [] else lines_from im (m - 1) (head_at im p).next.0))) _ _ (omega arith))
 
   -- from the table's first line on
   pub reach_first : (t k : ℕ) (h : Title) → h ≡ title_at im t → k ≤ 99 → ahead (100 - k) k h.line.0 ≡ line_found im t k
@@ -98,7 +98,7 @@ module _ (im : List ℕ) where
 module _ (im : List ℕ) where
   module _ (left p : ℕ) (c : Component) (h : 0 < left) (e : c ≡ component_at im p) where
     editable_one : first_editable im (components_from im left p)
-        ≡ (if c.editable then At (record { 0 = p }) else first_editable im (if c.last then [] else components_from im (left - 1) c.next.0))
+        ≡ (when c.editable then At (record { 0 = p }) else first_editable im (when c.last then [] else components_from im (left - 1) c.next.0))
     unfolding first_editable components_from
     editable_one = let z : left ≡ suc (left - 1) = omega arith in ap (λ (n : ℕ). first_editable im (components_from im n p)) z ∙ rw e
 
@@ -135,19 +135,19 @@ module _ (im : List ℕ) (p : ℕ) where
   in_here (suc n) c h e = if_eq c p _ _ e
 
   in_one : (left c : ℕ) (k : Component) → 0 < left → (c ≡ p → ⊥) → k ≡ component_at im c
-      → is_in p (components_from im left c) ≡ is_in p (if k.last then [] else components_from im (left - 1) k.next.0)
+      → is_in p (components_from im left c) ≡ is_in p (when k.last then [] else components_from im (left - 1) k.next.0)
   unfolding is_in components_from
   in_one zero c k h n e = absurd (omega arith)
   in_one (suc m) c k h n e = let z : suc m - 1 ≡ m = omega arith in if_ne c p _ _ n ∙ rw (z, e)
 
   pub in_last : (left c : ℕ) (k : Component) → 0 < left → (c ≡ p → ⊥) → k ≡ component_at im c → k.last ≡ true
       → is_in p (components_from im left c) ≡ false
-  unfolding is_in if◌then◌else◌
+  unfolding is_in when◌then◌else◌
   in_last left c k h n e l = in_one left c k h n e ∙ rw l
 
   pub in_next : (left c : ℕ) (k : Component) → 0 < left → (c ≡ p → ⊥) → k ≡ component_at im c → k.last ≡ false
       → is_in p (components_from im (left - 1) k.next.0) ≡ is_in p (components_from im left c)
-  unfolding if◌then◌else◌
+  unfolding when◌then◌else◌
   in_next left c k h n e l = sym (in_one left c k h n e ∙ rw l)
 
   pub in_done : (left c : ℕ) → left ≤ 0 → is_in p (components_from im left c) ≡ false

@@ -7,7 +7,7 @@ use lib.ListN.{length}
 use lib.Dec.{lit≤}
 use native.Mathlib.Omega.{arith}
 use borrow.Author.Tests.{ltb-true}
-use Rattle.laws.specs.Choice.{if◌then◌else◌, ◌<?◌}
+use Rattle.laws.specs.Choice.{when◌then◌else◌, ◌<?◌}
 use Rattle.laws.specs.Bytes.{byte_at, room}
 use Rattle.laws.proofs.Cases.{if_ind, if_min, if_true, if_lt}
 use Rattle.laws.proofs.Rooms.{room_le, le_room}
@@ -52,7 +52,7 @@ module _ (im : List ℕ) where
     pub laid : Laid at c end
 
   -- settings that are not refused are good
-  not_nine : (t : Bool) → ◌≡◌ {A = ℕ} (if t then 0 else 9) 0 → t ≡ true
+  not_nine : (t : Bool) → ◌≡◌ {A = ℕ} (when t then 0 else 9) 0 → t ≡ true
   not_nine t = if_ind (λ (n : ℕ). n ≡ 0 → t ≡ true) t (λ e c. e) (λ e c. absurd (omega arith))
 
   -- a component that is read is laid out so: first by a code, then by its own

@@ -8,7 +8,7 @@ use lib.ListN.{length}
 use lib.Dec.{lit≤}
 use native.Mathlib.Omega.{arith}
 use borrow.Author.Tests.{ltb-true, ltb-false, leb-true, leb-false, eqb-true, eqb-false, eq-eqb}
-use Rattle.laws.specs.Choice.{if◌then◌else◌, ◌and◌, ◌=?◌, ◌<?◌, ◌≤?◌}
+use Rattle.laws.specs.Choice.{when◌then◌else◌, ◌and◌, ◌=?◌, ◌<?◌, ◌≤?◌}
 use Rattle.laws.specs.Bytes.{byte_at, room}
 use Rattle.laws.proofs.Cases.{if_ind, if_true, if_false, if_lt, if_le, if_gt, if_ne, by_test, and_i, and_l, and_r}
 use Rattle.laws.proofs.Rooms.{room_le}
@@ -31,7 +31,7 @@ pub data Settings (f : Field) : ℕ → Type 0 where
   good : GoodSettings f → Settings f 0
   bad : (GoodSettings f → ⊥) → Settings f 9
 
-settings : (f : Field) → Settings f (if settings_fit f.kind f.default then 0 else 9)
+settings : (f : Field) → Settings f (when settings_fit f.kind f.default then 0 else 9)
 settings f =
     if_ind (Settings f) (settings_fit f.kind f.default) (λ y. Settings.good (record { good = y })) (λ y. Settings.bad (λ g. clash g.good y))
 
@@ -52,7 +52,7 @@ module _ (im : List ℕ) (at : ℕ) where
     pub fields : fields_by im at k ≡ gs
 
   pub form_is : {b t : ℕ} {gs : List Field} → Form im at b t gs → FormIs c e b t gs
-  unfolding fixed_bytes text_count kind_at default_place sheet_place_at profile_of if◌then◌else◌
+  unfolding fixed_bytes text_count kind_at default_place sheet_place_at profile_of when◌then◌else◌
   form_is (Form.integer k) = record {
     known = omega arith;
     fixed = integer_bytes c e k;
@@ -75,7 +75,7 @@ module _ (im : List ℕ) (at : ℕ) where
     unknown : 0x18 ≤ c → b ≡ 1 → t ≡ 0 → LaterIs b t
 
   later_is : {b t : ℕ} → NotCovered im at b t → LaterIs b t
-  unfolding fixed_bytes text_count given if◌then◌else◌
+  unfolding fixed_bytes text_count given when◌then◌else◌
   later_is (NotCovered.float l u) =
       LaterIs.known (omega arith)
       (if_gt c 0x04 _ _ (omega arith) ∙ if_gt c 0x0a _ _ (omega arith) ∙ if_le c 0x0c _ _ u)
@@ -172,7 +172,7 @@ module _ (im : List ℕ) (at : ℕ) where
   -- ---- what is given is not wrong, and what is not given is
 
   right : c < 0x18 → given im at c e T ≡ true → ComponentWrong im at → ⊥
-  unfolding fixed_bytes text_count given ◌and◌ if◌then◌else◌
+  unfolding fixed_bytes text_count given ◌and◌ when◌then◌else◌
   right l g (ComponentWrong.not_covered x) = go (later_is x)
     where
       go : {n t : ℕ} → LaterIs n t → ⊥
@@ -185,7 +185,7 @@ module _ (im : List ℕ) (at : ℕ) where
       n (sym (eqb-true (byte_at im (at + 8)) longest (and_r (at + byte_at im (at + 6) =? end) _ (rw (k, texts_run im t) at g))))
 
   miss : {b t : ℕ} {gs : List Field} → Form im at b t gs → T.fits ≡ true → given im at c e T ≡ false → ComponentWrong im at
-  unfolding fixed_bytes text_count given ◌and◌ if◌then◌else◌
+  unfolding fixed_bytes text_count given ◌and◌ when◌then◌else◌
   miss (Form.integer k) f g = clash (if_le c 0x0a _ _ k) g
   miss (Form.counter k) f g = absurd (true≢false (rw k at g))
   miss (Form.time_long k) f g = absurd (true≢false (rw k at g))
@@ -236,14 +236,14 @@ module _ (im : List ℕ) (at : ℕ) where
   held end {f = f} u r x =
       by_test (c =? 0x15)
       (λ q. let h : ◌≡◌ {A = List Field} [] (f ∷ []) = sym (if_false _ _ (if_true _ _ q)) ∙ (form_is x).fields in let z : ◌≡◌ {A = ℕ} 0 1 = cc in absurd (omega arith))
-      (λ q. let t : (if c =? 0x15 then false else true) ≡ true = if_false _ _ q in
+      (λ q. let t : (when c =? 0x15 then false else true) ≡ true = if_false _ _ q in
       let h : field_by im at c ∷ [] ≡ f ∷ [] = sym (if_true _ _ t) ∙ (form_is x).fields in
       let k : field_by im at c ≡ f = cc in
       View.field u r x k t (rw k at (settings (field_by im at c))))
 
   -- one that is not wrong has a form
   formed : (end : ℕ) {b t : ℕ} {gs : List Field} → (ComponentCut im at → ⊥) → (ComponentWrong im at → ⊥) → Form im at b t gs → View (component_read im at c (byte_at im at) end)
-  unfolding kind_at default_place profile_of settings_fit kind_fits in_range in_span all_within cells_of within cell_of ◌and◌ if◌then◌else◌
+  unfolding kind_at default_place profile_of settings_fit kind_fits in_range in_span all_within cells_of within cell_of ◌and◌ when◌then◌else◌
   formed end u r (Form.integer k) = held end u r (Form.integer k)
   formed end u r (Form.counter k) = held end u r (Form.counter k)
   formed end u r (Form.time_long k) = held end u r (Form.time_long k)

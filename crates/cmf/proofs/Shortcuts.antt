@@ -6,7 +6,7 @@ use mathlib.Core.List.{List, []}
 use native.Mathlib.Omega.{arith}
 use lib.ListN.{length}
 use borrow.Author.Tests.{le-leb, lt-leb, leb-true, ltb-true, ltb-false}
-use Rattle.laws.specs.Choice.{if◌then◌else◌, ◌and◌, ◌=?◌, ◌<?◌, ◌≤?◌}
+use Rattle.laws.specs.Choice.{when◌then◌else◌, ◌and◌, ◌=?◌, ◌<?◌, ◌≤?◌}
 use Rattle.laws.specs.Bytes.{byte_at, word_at, room}
 use Rattle.laws.specs.Digits.{from_low, number_from}
 use Rattle.laws.specs.Overwrite.{fit}
@@ -88,43 +88,43 @@ unfolding settings_fit kind_fits ◌and◌
 trigger_fits v = range_of_trigger (number_of v)
 
 pub string_texts : (im : List ℕ) (at : ℕ) → text_count im at 0x15 ≡ 1
-unfolding text_count if◌then◌else◌
+unfolding text_count when◌then◌else◌
 string_texts im at = refl
 
 module _ (tag : ℕ) (constant : tag_bit 32 tag ≡ 0) where
   pub string_fixed : fixed_bytes 0x15 (tag_bit 32 tag) ≡ 1
-  unfolding fixed_bytes if◌then◌else◌
+  unfolding fixed_bytes when◌then◌else◌
   string_fixed = rw constant
 
   pub string_given : (im : List ℕ) (at : ℕ) (t : Run) → given im at 0x15 (tag_bit 32 tag) t ≡ true
-  unfolding given if◌then◌else◌
+  unfolding given when◌then◌else◌
   string_given im at t = rw constant
 
   -- no field, and nothing of it can be bad
   pub string_read : (im : List ℕ) (at end : ℕ)
       → record { refusal = 0; last = tag_bit 128 tag =? 1; editable = false; fielded = false; field = record { image = record { 0 = at }; sheet = record { 0 = 0 }; kind = Trigger; default = value_of 0 [] }; end = end; next = record { 0 = even_from end } }
       ≡ component_read im at 0x15 tag end
-  unfolding kind_at sheet_place_at default_place profile_of if◌then◌else◌ fit
+  unfolding kind_at sheet_place_at default_place profile_of when◌then◌else◌ fit
   string_read im at end = rw (constant, trigger_fits)
 
 -- ---- an option
 
 pub option_fixed : (edit : ℕ) → fixed_bytes 0x14 edit ≡ 10
-unfolding fixed_bytes if◌then◌else◌
+unfolding fixed_bytes when◌then◌else◌
 option_fixed edit = refl
 
 pub option_texts : (im : List ℕ) (at : ℕ) → text_count im at 0x14 ≡ byte_at im (at + 7)
-unfolding text_count if◌then◌else◌
+unfolding text_count when◌then◌else◌
 option_texts im at = refl
 
 -- its edit bit does not matter
 pub option_edit : (im : List ℕ) (at edit : ℕ) (t : Run) → given im at 0x14 0 t ≡ given im at 0x14 edit t
-unfolding given if◌then◌else◌
+unfolding given when◌then◌else◌
 option_edit im at edit t = refl
 
 -- the number in one byte is that byte
 pub one_byte : (at : ℕ) (im : List ℕ) → number_of (value_at at 1 im) ≡ byte_at im at
-unfolding number_of from_low number_from if◌then◌else◌
+unfolding number_of from_low number_from when◌then◌else◌
 one_byte at im = rw (part_four at 1 im) (omega arith)
 
 -- its settings are good where its default is below its count of items
@@ -136,5 +136,5 @@ option_good n w v =
     (λ h. let l = ltb-false x n h in h ∙ sym (by_test (1 ≤? n) (λ k. let m = leb-true 1 n k in simp (k, le-leb 0 x (omega arith), lt-leb x (n - 1) (omega arith))) (λ k. simp k))))
 
 pub option_fits : (im : List ℕ) (at : ℕ) → (byte_at im (at + 9) <? byte_at im (at + 7)) ≡ settings_fit (kind_at im at 0x14) (field_by im at 0x14).default
-unfolding kind_at default_place profile_of if◌then◌else◌
+unfolding kind_at default_place profile_of when◌then◌else◌
 option_fits im at = rw (← one_byte (at + 9) im) (option_good _ _ _)

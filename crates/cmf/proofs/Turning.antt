@@ -7,7 +7,7 @@ use native.Mathlib.Omega.{arith}
 use native.Mathlib.Nat.{zero-mul, one-mul, mul-zero}
 use lib.ListN.{length}
 use borrow.Author.Tests.{le-leb, lt-leb, leb-true}
-use Rattle.laws.specs.Choice.{if◌then◌else◌, ◌and◌, ◌≤?◌}
+use Rattle.laws.specs.Choice.{when◌then◌else◌, ◌and◌, ◌≤?◌}
 use Rattle.laws.specs.Bytes.{byte_at, room}
 use Rattle.laws.proofs.Cases.{if_true, if_false, if_lt, if_ge, if_le, if_ind}
 use Rattle.laws.proofs.Rooms.{room_le, le_room}
@@ -143,19 +143,19 @@ module _ (im : List ℕ) where
 
   -- how many lines are left when n of the hundred are passed
   lines_here : (n p q : ℕ) (last : Bool) → n < 100 → last ≡ (head_at im p).last → q ≡ (head_at im p).next.0
-      → length (lines_from im (100 - n) p) ≡ 1 + length (if last then [] else lines_from im (100 - (n + 1)) q)
+      → length (lines_from im (100 - n) p) ≡ 1 + length (when last then [] else lines_from im (100 - (n + 1)) q)
   unfolding lines_from
   lines_here n p q last a e f =
       let z : 100 - n ≡ suc (100 - (n + 1)) = omega arith in
       rw (z, e, f) (omega arith)
 
   pub count_last : (n p : ℕ) → n < 100 → true ≡ (head_at im p).last → n + length (lines_from im (100 - n) p) ≡ n + 1
-  unfolding if◌then◌else◌
+  unfolding when◌then◌else◌
   count_last n p a l = rw (lines_here n p (head_at im p).next.0 true a l refl)
 
   pub count_next : (n p q : ℕ) → n < 100 → false ≡ (head_at im p).last → q ≡ (head_at im p).next.0
       → n + length (lines_from im (100 - n) p) ≡ n + 1 + length (lines_from im (100 - (n + 1)) q)
-  unfolding if◌then◌else◌
+  unfolding when◌then◌else◌
   count_next n p q a l e = let h = lines_here n p q false a l e in omega arith
 
   pub count_done : (n p : ℕ) → 100 ≤ n → n + length (lines_from im (100 - n) p) ≡ n

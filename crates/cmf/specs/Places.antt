@@ -1,7 +1,7 @@
 -- The way through an image: the lines of a table, the components of a line and all components that a walk
 -- reaches, as lists of their places.
 use Rattle.std.specs.Prelude.{ℕ, zero, suc, ◌+◌, List, [], ◌∷◌, ◌++◌, map, Bool, true, false, length}
-use Rattle.laws.specs.Choice.{if◌then◌else◌, ◌=?◌, ◌<?◌}
+use Rattle.laws.specs.Choice.{when◌then◌else◌, ◌=?◌, ◌<?◌}
 use Rattle.field.specs.declared.record.Field.{Field}
 use Rattle.cmf.specs.Limits.{most_lines_of_table, deepest_table, prolog_bytes}
 use Rattle.cmf.specs.Readers.{title_at, head_at, component_at}
@@ -12,7 +12,7 @@ use Rattle.cmf.specs.declared.place.Found.TheVariants.{At, Nothing}
 -- the lines from one on to the last of the table, at most k
 unfoldable pub lines_from : List ℕ → ℕ → ℕ → List ℕ
 lines_from im zero p = []
-lines_from im (suc k) p = p ∷ (if (head_at im p).last then [] else lines_from im k (head_at im p).next.0)
+lines_from im (suc k) p = p ∷ (when (head_at im p).last then [] else lines_from im k (head_at im p).next.0)
 
 -- the lines of a table; one more than there may be is looked for
 unfoldable pub lines_of : List ℕ → ℕ → List ℕ
@@ -22,7 +22,7 @@ lines_of im t = lines_from im (most_lines_of_table + 1) (title_at im t).line.0
 unfoldable pub components_from : List ℕ → ℕ → ℕ → List ℕ
 components_from im zero c = []
 components_from im (suc k) c =
-    c ∷ (if (component_at im c).last then [] else components_from im k (component_at im c).next.0)
+    c ∷ (when (component_at im c).last then [] else components_from im k (component_at im c).next.0)
 
 -- the components from one on to the last of its line; each takes a byte at least, so that one more than the
 -- image has bytes is enough
@@ -49,7 +49,7 @@ line_count im t = length (lines_of im t)
 
 -- a place that is found if a test passes
 abbrev pub found_if : Bool → ℕ → Found
-found_if t p = if t then At (record { 0 = p }) else Nothing
+found_if t p = when t then At (record { 0 = p }) else Nothing
 
 -- line k of a table, from 0, if it has more than k
 abbrev pub line_found : List ℕ → ℕ → ℕ → Found
@@ -58,23 +58,23 @@ line_found im t k = found_if (k <? line_count im t) (line_at im t k)
 -- the first editable one of some components
 unfoldable pub first_editable : List ℕ → List ℕ → Found
 first_editable im [] = Nothing
-first_editable im (p ∷ ps) = if (component_at im p).editable then At (record { 0 = p })
+first_editable im (p ∷ ps) = when (component_at im p).editable then At (record { 0 = p })
     else first_editable im ps
 
 -- the editable component that follows one on its line; none follows the last
 unfoldable pub next_editable : List ℕ → ℕ → Found
 next_editable im p =
-    if (component_at im p).last then Nothing
+    when (component_at im p).last then Nothing
     else first_editable im (rest_of_line im (component_at im p).next.0)
 
 -- a place is one of a list
 unfoldable pub is_in : ℕ → List ℕ → Bool
 is_in p [] = false
-is_in p (q ∷ qs) = if q =? p then true else is_in p qs
+is_in p (q ∷ qs) = when q =? p then true else is_in p qs
 
 -- the field of a component that is one
 abbrev pub held_by : Component → List Field
-held_by c = if c.fielded then c.field ∷ [] else []
+held_by c = when c.fielded then c.field ∷ [] else []
 
 -- ---- the walk of 01, Refusal numbers: from line to line, at each its components and then its submenu
 
@@ -82,7 +82,7 @@ module _ (im : List ℕ) where
   module _ (submenu : ℕ → List ℕ) where
     -- the components that are reached at a line: its own, then those of its submenu
     unfoldable pub line_reach : ℕ → List ℕ
-    line_reach p = components_of im p ++ (if (head_at im p).submenu then submenu (head_at im p).table.0
+    line_reach p = components_of im p ++ (when (head_at im p).submenu then submenu (head_at im p).table.0
         else [])
 
     -- at lines, one after another

@@ -4,7 +4,7 @@
 -- password is a good one is told apart, by `typeable`. What is refused with 6 or 7 reads as the last of its
 -- list and leads nowhere.
 use Rattle.std.specs.Prelude.{ℕ, zero, suc, ◌+◌, ◌-◌, ◌*◌, ◌/◌, ◌%◌, max, Bool, true, false, List, [], length}
-use Rattle.laws.specs.Choice.{if◌then◌else◌, ◌and◌, ◌=?◌, ◌<?◌, ◌≤?◌}
+use Rattle.laws.specs.Choice.{when◌then◌else◌, ◌and◌, ◌=?◌, ◌<?◌, ◌≤?◌}
 use Rattle.laws.specs.Bytes.{byte_at, word_at, room}
 use Rattle.laws.specs.Parts.{part_at}
 use Rattle.field.specs.Formats.{format_of}
@@ -47,8 +47,8 @@ run_of ok e m = record { fits = ok; end = e; longest = m }
 unfoldable pub texts_from : List ℕ → ℕ → ℕ → ℕ → Run
 texts_from im zero at m = run_of true at m
 texts_from im (suc n) at m =
-    if room (length im) at 1 then
-    (if room (length im) (at + 1) (byte_at im at)
+    when room (length im) at 1 then
+    (when room (length im) (at + 1) (byte_at im at)
     then texts_from im n (at + 1 + byte_at im at) (max m (byte_at im at)) else run_of false at m)
     else run_of false at m
 
@@ -65,7 +65,7 @@ password_fits im at =
 -- the place of the k-th of the texts from a place on
 unfoldable pub item_from : List ℕ → ℕ → ℕ → ℕ
 item_from im zero at = at
-item_from im (suc k) at = if at <? length im then item_from im k (at + 1 + byte_at im at) else at
+item_from im (suc k) at = when at <? length im then item_from im k (at + 1 + byte_at im at) else at
 
 -- where the text of an option's item is: its texts begin after ten bytes (7.5.21 with R1's var-addr)
 abbrev pub item_place : List ℕ → ℕ → ℕ → ℕ
@@ -73,7 +73,7 @@ item_place im place item = item_from im item (place + 10)
 
 -- the bytes of the text at a place, without its length byte; none where it is not all in the image
 unfoldable pub text_bytes : List ℕ → ℕ → List ℕ
-text_bytes im at = if room (length im) at (1 + byte_at im at) then part_at (at + 1) (byte_at im at) im else []
+text_bytes im at = when room (length im) at (1 + byte_at im at) then part_at (at + 1) (byte_at im at) im else []
 
 -- ---- 7.2: a table's title
 
@@ -82,7 +82,7 @@ title_refused at = record { refusal = 6; end = at; line = record { 0 = at } }
 
 -- where it ends, and where the first line is
 unfoldable pub title_by : ℕ → Run → Title
-title_by at t = if t.fits then record { refusal = 0; end = t.end; line = record { 0 = odd_from t.end } }
+title_by at t = when t.fits then record { refusal = 0; end = t.end; line = record { 0 = odd_from t.end } }
     else title_refused at
 
 unfoldable pub title_at : List ℕ → ℕ → Title
@@ -131,7 +131,7 @@ passwords tag = tag_bit 8 tag * tag_bit 16 tag
 abbrev pub head_read : List ℕ → ℕ → ℕ → ℕ → Head
 head_read im p tag end = record {
   refusal = 0;
-  typeable = if passwords tag =? 1 then password_fits im (options_end p tag) else true;
+  typeable = when passwords tag =? 1 then password_fits im (options_end p tag) else true;
   last = tag_bit 2 tag =? 1;
   submenu = tag_bit 8 tag =? 1;
   protected = passwords tag =? 1;
@@ -145,16 +145,16 @@ head_read im p tag end = record {
 -- R9: a password bit without a submenu is 7, once all options are there
 unfoldable pub head_by : List ℕ → ℕ → ℕ → Run → Head
 head_by im p tag t =
-    if options_end p tag ≤? length im then
-    (if t.fits then (if tag_bit 16 tag ≤? tag_bit 8 tag then head_read im p tag t.end else head_refused p 7)
+    when options_end p tag ≤? length im then
+    (when t.fits then (when tag_bit 16 tag ≤? tag_bit 8 tag then head_read im p tag t.end else head_refused p 7)
     else head_refused p 6)
     else head_refused p 6
 
 -- R9: a tag with a bit above 4 is 7 at once
 unfoldable pub head_at : List ℕ → ℕ → Head
 head_at im p =
-    if p <? length im then
-    (if byte_at im p <? 32 then head_by im p (byte_at im p)
+    when p <? length im then
+    (when byte_at im p <? 32 then head_by im p (byte_at im p)
     (texts_from im (passwords (byte_at im p)) (options_end p (byte_at im p)) 0) else head_refused p 7)
     else head_refused p 6
 
@@ -163,40 +163,40 @@ head_at im p =
 -- bytes before a component's texts, its tag among them, by code; a string that is editable has an address
 unfoldable pub fixed_bytes : ℕ → ℕ → ℕ
 fixed_bytes code edit =
-    if code ≤? 0x04 then 7  -- 7.5.1 to 7.5.5: update:1 call-addr:2 var-addr:2 default:1
-    else if code ≤? 0x0a then 8  -- 7.5.6 to 7.5.11: default:2
-    else if code ≤? 0x0c then 10  -- 7.5.12, 7.5.13: default:4
-    else if code =? 0x0d then 15  -- 7.5.14: min:2 max:2 step:2 default:2 field-width:1
-    else if code =? 0x0e then 23  -- 7.5.15: min:4 max:4 step:4 default:4 field-width:1
-    else if code =? 0x0f then 9  -- 7.5.16: hours:1 minutes:1 seconds:1
-    else if code =? 0x10 then 8  -- 7.5.17: hours:1 minutes:1
-    else if code =? 0x11 then 10  -- 7.5.18: day:1 month:1 year:2
-    else if code =? 0x12 then 9  -- 7.5.19: day:1 month:1 year:1
-    else if code =? 0x13 then 14  -- 7.5.20: length:1 nswitch:1 on-char:1 off-char:1 default:4
-    else if code =? 0x14 then 10  -- 7.5.21, R1: length:1 nopts:1 field-width:1 default:1
+    when code ≤? 0x04 then 7  -- 7.5.1 to 7.5.5: update:1 call-addr:2 var-addr:2 default:1
+    else when code ≤? 0x0a then 8  -- 7.5.6 to 7.5.11: default:2
+    else when code ≤? 0x0c then 10  -- 7.5.12, 7.5.13: default:4
+    else when code =? 0x0d then 15  -- 7.5.14: min:2 max:2 step:2 default:2 field-width:1
+    else when code =? 0x0e then 23  -- 7.5.15: min:4 max:4 step:4 default:4 field-width:1
+    else when code =? 0x0f then 9  -- 7.5.16: hours:1 minutes:1 seconds:1
+    else when code =? 0x10 then 8  -- 7.5.17: hours:1 minutes:1
+    else when code =? 0x11 then 10  -- 7.5.18: day:1 month:1 year:2
+    else when code =? 0x12 then 9  -- 7.5.19: day:1 month:1 year:1
+    else when code =? 0x13 then 14  -- 7.5.20: length:1 nswitch:1 on-char:1 off-char:1 default:4
+    else when code =? 0x14 then 10  -- 7.5.21, R1: length:1 nopts:1 field-width:1 default:1
     -- 7.5.22: update:1 call-addr:2 var-addr:2, or nothing
-    else if code =? 0x15 then (if edit =? 1 then 6 else 1)
+    else when code =? 0x15 then (when edit =? 1 then 6 else 1)
     else 4  -- 7.5.23, 7.5.24: update:1 call-addr:2
 
 -- R17: a switch has nswitch texts, an option nopts; a string and a password have one
 unfoldable pub text_count : List ℕ → ℕ → ℕ → ℕ
 text_count im at code =
-    if code <? 0x13 then 0
-    else if code ≤? 0x14 then byte_at im (at + 7)
-    else if code ≤? 0x16 then 1
+    when code <? 0x13 then 0
+    else when code ≤? 0x14 then byte_at im (at + 7)
+    else when code ≤? 0x16 then 1
     else 0
 
 -- whether section 7 gives the component that is there and 01 does not leave it for later; R16: length and
 -- field-width agree with the texts
 unfoldable pub given : List ℕ → ℕ → ℕ → ℕ → Run → Bool
 given im at code edit t =
-    if code ≤? 0x0a then true
-    else if code =? 0x0d then true
-    else if code <? 0x0f then false
-    else if code ≤? 0x12 then true
-    else if code =? 0x13 then at + byte_at im (at + 6) =? t.end
-    else if code =? 0x14 then (at + byte_at im (at + 6) =? t.end) and (byte_at im (at + 8) =? t.longest)
-    else if code =? 0x15 then edit =? 0
+    when code ≤? 0x0a then true
+    else when code =? 0x0d then true
+    else when code <? 0x0f then false
+    else when code ≤? 0x12 then true
+    else when code =? 0x13 then at + byte_at im (at + 6) =? t.end
+    else when code =? 0x14 then (at + byte_at im (at + 6) =? t.end) and (byte_at im (at + 8) =? t.longest)
+    else when code =? 0x15 then edit =? 0
     else code =? 0x17
 
 -- 7.5.14, R2: min, max and step are signed; min and max are kept with 32,768 added
@@ -211,27 +211,27 @@ counter_of im at = record {
 -- the kind that a code gives; what is no field of ours counts as a trigger here
 unfoldable pub kind_at : List ℕ → ℕ → ℕ → Kind
 kind_at im at code =
-    if code ≤? 0x0a then Integer (format_of code)
-    else if code =? 0x0d then Counter (counter_of im at)
-    else if code =? 0x0f then Time true
-    else if code =? 0x10 then Time false
-    else if code =? 0x11 then Date true
-    else if code =? 0x12 then Date false
-    else if code =? 0x13 then Switch (byte_at im (at + 7))
-    else if code =? 0x14 then Option (byte_at im (at + 7)) (byte_at im (at + 8))
+    when code ≤? 0x0a then Integer (format_of code)
+    else when code =? 0x0d then Counter (counter_of im at)
+    else when code =? 0x0f then Time true
+    else when code =? 0x10 then Time false
+    else when code =? 0x11 then Date true
+    else when code =? 0x12 then Date false
+    else when code =? 0x13 then Switch (byte_at im (at + 7))
+    else when code =? 0x14 then Option (byte_at im (at + 7)) (byte_at im (at + 8))
     else Trigger
 
 -- where the default is
 unfoldable pub default_place : ℕ → ℕ → ℕ
 default_place at code =
-    if code =? 0x0d then at + 12
-    else if code =? 0x13 then at + 10
-    else if code =? 0x14 then at + 9
+    when code =? 0x0d then at + 12
+    else when code =? 0x13 then at + 10
+    else when code =? 0x14 then at + 9
     else at + 6
 
 -- 7.5: var-addr comes after update and call-addr; R18: a trigger has none
 unfoldable pub sheet_place_at : List ℕ → ℕ → ℕ → ℕ
-sheet_place_at im at code = if code <? 0x15 then word_at im (at + 4) else 0
+sheet_place_at im at code = when code <? 0x15 then word_at im (at + 4) else 0
 
 abbrev pub field_by : List ℕ → ℕ → ℕ → Field
 field_by im at code = record {
@@ -255,10 +255,10 @@ component_refused im at k = record {
 -- the component that ends at `end`; 01, Fields: a trigger is editable whatever its edit bit
 abbrev pub component_read : List ℕ → ℕ → ℕ → ℕ → ℕ → Component
 component_read im at code tag end = record {
-  refusal = if settings_fit (kind_at im at code) (field_by im at code).default then 0 else 9;
+  refusal = when settings_fit (kind_at im at code) (field_by im at code).default then 0 else 9;
   last = tag_bit 128 tag =? 1;
-  editable = if code =? 0x17 then true else tag_bit 32 tag =? 1;
-  fielded = if code =? 0x15 then false else true;
+  editable = when code =? 0x17 then true else tag_bit 32 tag =? 1;
+  fielded = when code =? 0x15 then false else true;
   field = field_by im at code;
   end = end;
   next = record { 0 = even_from end };
@@ -266,8 +266,8 @@ component_read im at code tag end = record {
 
 unfoldable pub laid_out : List ℕ → ℕ → ℕ → ℕ → Run → Component
 laid_out im at code tag t =
-    if room (length im) at (fixed_bytes code (tag_bit 32 tag)) then
-    (if t.fits then (if given im at code (tag_bit 32 tag) t then component_read im at code tag t.end
+    when room (length im) at (fixed_bytes code (tag_bit 32 tag)) then
+    (when t.fits then (when given im at code (tag_bit 32 tag) t then component_read im at code tag t.end
     else component_refused im at 7) else component_refused im at 6)
     else component_refused im at 6
 
@@ -275,11 +275,11 @@ laid_out im at code tag t =
 -- given is 7 at its tag
 unfoldable pub component_by : List ℕ → ℕ → ℕ → ℕ → Component
 component_by im at code tag =
-    if code <? 0x18 then laid_out im at code tag
+    when code <? 0x18 then laid_out im at code tag
     (texts_from im (text_count im at code) (at + fixed_bytes code (tag_bit 32 tag)) 0)
     else component_refused im at 7
 
 unfoldable pub component_at : List ℕ → ℕ → Component
 component_at im at =
-    if at <? length im then component_by im at (byte_at im at % 32) (byte_at im at)
+    when at <? length im then component_by im at (byte_at im at % 32) (byte_at im at)
     else component_refused im at 6

@@ -1,6 +1,6 @@
 // A component of a line, and the field that it is.
 ghost use Rattle.std.specs.Prelude.{◌≡◌, ◌+◌, ◌%◌, ◌<◌, ◌≤◌, length, true, false, []};
-ghost use Rattle.laws.specs.Choice.{if◌then◌else◌, ◌=?◌};
+ghost use Rattle.laws.specs.Choice.{when◌then◌else◌, ◌=?◌};
 ghost use Rattle.laws.specs.Bytes.{word_at, room};
 ghost use Rattle.field.specs.Cells.{biased};
 ghost use Rattle.field.specs.Settings.{settings_fit};
@@ -137,14 +137,14 @@ impl Component {
 }
 
 fn nine_unless(ok: bool) -> u8
-    ensures { result ≡ if ok then 0 else 9 }
+    ensures { result ≡ when ok then 0 else 9 }
 {
     if ok { 0 } else { 9 }
 }
 
 // A trigger is editable whatever its edit bit.
 fn is_editable(code: u8, tag: u8) -> bool
-    ensures { result ≡ if code =? 0x17 then true else tag_bit 32 tag =? 1 }
+    ensures { result ≡ when code =? 0x17 then true else tag_bit 32 tag =? 1 }
 {
     if code == 0x17 {
         return true;
@@ -154,7 +154,7 @@ fn is_editable(code: u8, tag: u8) -> bool
 
 // Every component but a constant string is a field.
 fn is_field(code: u8) -> bool
-    ensures { result ≡ if code =? 0x15 then false else true }
+    ensures { result ≡ when code =? 0x15 then false else true }
 {
     if code == 0x15 {
         return false;

@@ -1,6 +1,6 @@
 // A line's head: its tag and its options.
 ghost use Rattle.std.specs.Prelude.{◌≡◌, ◌+◌, ◌<◌, ◌≤◌, true, length};
-ghost use Rattle.laws.specs.Choice.{if◌then◌else◌};
+ghost use Rattle.laws.specs.Choice.{when◌then◌else◌};
 ghost use Rattle.cmf.specs.Readers.{texts_from, password_fits, head_refused, passwords};
 ghost use Rattle.cmf.specs.Readers.{first_at, back_place, back_at, submenu_place, options_end};
 ghost use Rattle.cmf.specs.Readers.{head_read, head_by, head_at};
@@ -91,7 +91,7 @@ pub fn back_at(image: &[u8], p: usize) -> usize
 }
 
 fn is_typeable(image: &[u8], protected: bool, at: usize) -> bool
-    ensures { result ≡ if protected then password_fits image.now at else true }
+    ensures { result ≡ when protected then password_fits image.now at else true }
 {
     if protected {
         return password_fits(image, at);

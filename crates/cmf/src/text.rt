@@ -2,7 +2,7 @@
 ghost use Rattle.std.specs.Prelude.{◌≡◌, false, ◌+◌, ◌<◌, max, length};
 ghost use Rattle.cmf.specs.Readers.{run_of, texts_from, all_digits, password_fits, item_from, item_place};
 ghost use Rattle.cmf.specs.Readers.{text_bytes};
-ghost use Rattle.laws.specs.Choice.{if◌then◌else◌, ◌<?◌};
+ghost use Rattle.laws.specs.Choice.{when◌then◌else◌, ◌<?◌};
 
 use crate::image::Image;
 use laws::{byte_at, room};
@@ -120,7 +120,7 @@ fn item_from(image: &[u8], k: usize, at: usize) -> usize
 
 // Where an item of the option at a place begins, its length byte first; 0 for a place beyond the image.
 pub fn item_place(image: &[u8], place: usize, item: usize) -> usize
-    ensures { result ≡ if place <? length image.now
+    ensures { result ≡ when place <? length image.now
         then item_place image.now place item else 0 }
 {
     if place < image.len() {

@@ -6,7 +6,7 @@ use native.Mathlib.Omega.{arith}
 use native.Mathlib.Nat.{pow-le-pow_left, pow-le-pow_right, one-le-pow}
 use lib.Dec.{lit≤}
 use borrow.Author.Tests.{ltb-true, leb-true, leb-false}
-use Rattle.laws.specs.Choice.{if◌then◌else◌, ◌<?◌, ◌≤?◌}
+use Rattle.laws.specs.Choice.{when◌then◌else◌, ◌<?◌, ◌≤?◌}
 use Rattle.laws.proofs.Cases.{if_ind, if_max, if_min}
 use Rattle.field.specs.Formats.{signs_of, digits_in, base_of, limit_of, half_of, top_of, numeral_of, bits_in, bits_of}
 use Rattle.field.specs.Profiles.{profile_of}
@@ -18,7 +18,7 @@ use Rattle.field.specs.declared.numeral.Numeral.{Numeral}
 use Rattle.field.specs.declared.kind.Kind.TheVariants.{Integer, Counter, Time, Date, Switch, Option, Trigger}
 
 -- a number cut to a bound
-cut : (n m : ℕ) → (if n <? m then n else m) ≤ m
+cut : (n m : ℕ) → (when n <? m then n else m) ≤ m
 cut n m = if_ind (λ (x : ℕ). x ≤ m) (n <? m) (λ e. omega (arith, ltb-true n m e)) (λ e. omega arith)
 
 -- at most one sign cell
@@ -48,10 +48,10 @@ base_le f = if_max f.hex (lit≤ tt) (lit≤ tt)
 
 -- the base is 10 or 16
 base_known : (f : Format) → (base_of f ≡ 10 → ⊥) → (base_of f ≡ 16 → ⊥) → ⊥
-unfolding base_of if◌then◌else◌
+unfolding base_of when◌then◌else◌
 base_known f = go f.hex
   where
-    go : (t : Bool) → ((if◌then◌else◌ {A = ℕ} t 16 10) ≡ 10 → ⊥) → ((if◌then◌else◌ {A = ℕ} t 16 10) ≡ 16 → ⊥) → ⊥
+    go : (t : Bool) → ((when◌then◌else◌ {A = ℕ} t 16 10) ≡ 10 → ⊥) → ((when◌then◌else◌ {A = ℕ} t 16 10) ≡ 16 → ⊥) → ⊥
     go true p q = q refl
     go false p q = p refl
 
@@ -67,10 +67,10 @@ limit_ge f = if_min f.wide (lit≤ tt) (lit≤ tt)
 
 -- as many numbers as the bytes have values
 pub limit_bytes : (f : Format) → limit_of f ≡ 256 ^ (profile_of (Integer f)).bytes
-unfolding limit_of profile_of if◌then◌else◌
+unfolding limit_of profile_of when◌then◌else◌
 limit_bytes f = go f.wide
   where
-    go : (t : Bool) → (if t then 65536 else 256) ≡ 256 ^ (if t then 2 else 1)
+    go : (t : Bool) → (when t then 65536 else 256) ≡ 256 ^ (when t then 2 else 1)
     go true = refl
     go false = refl
 
@@ -86,10 +86,10 @@ half_pos f = if_min f.signed (omega (arith, limit_ge f)) (omega (arith, limit_ge
 
 -- without a sign no number is below 0
 half_plain : (f : Format) → signs_of f ≡ 0 → half_of f ≡ limit_of f
-unfolding half_of signs_of if◌then◌else◌
+unfolding half_of signs_of when◌then◌else◌
 half_plain f e = go f.signed e
   where
-    go : (s : Bool) → (if◌then◌else◌ {A = ℕ} s 1 0) ≡ 0 → (if s then limit_of f / 2 else limit_of f) ≡ limit_of f
+    go : (s : Bool) → (when◌then◌else◌ {A = ℕ} s 1 0) ≡ 0 → (when s then limit_of f / 2 else limit_of f) ≡ limit_of f
     go true q = absurd (omega arith)
     go false q = refl
 

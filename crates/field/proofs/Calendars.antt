@@ -6,7 +6,7 @@ use mathlib.Core.List.{[], ◌∷◌, map}
 use native.Mathlib.Omega.{arith}
 use lib.Dec.{lit≤}
 use borrow.Author.Tests.{eq-eqb, ne_eqb, eqb-true}
-use Rattle.laws.specs.Choice.{if◌then◌else◌, ◌and◌, ◌=?◌}
+use Rattle.laws.specs.Choice.{when◌then◌else◌, ◌and◌, ◌=?◌}
 use Rattle.laws.proofs.Cases.{if_true, if_false, if_eq, if_ne, if_max, if_min, by_test}
 use Rattle.laws.proofs.Tables.{passes}
 use Rattle.field.specs.Calendar.{leap_year, month_end, full_year}
@@ -24,7 +24,7 @@ year_days y = sum_to (λ m. month_end y (m + 1)) 12
 
 -- 400 years have 146,097 days: 365 each, and 97 more
 pub cycle_days : sum_to year_days 400 ≡ 146097
-unfolding sum_to month_end leap_year if◌then◌else◌
+unfolding sum_to month_end leap_year when◌then◌else◌
 cycle_days = refl
 
 -- the leap years before a year, counted by multiples of 4, 100 and 400
@@ -33,7 +33,7 @@ leaps_before y = (y + 3) / 4 - (y + 99) / 100 + (y + 399) / 400
 
 -- by that count too each of the 400 has its days
 pub year_days_lem : (y : ℕ) → y < 400 → year_days y ≡ 365 + (leaps_before (y + 1) - leaps_before y)
-unfolding sum_to month_end leap_year if◌then◌else◌ ◌and◌
+unfolding sum_to month_end leap_year when◌then◌else◌ ◌and◌
 year_days_lem y h = eqb-true _ _ (passes (λ (n : ℕ). year_days n =? 365 + (leaps_before (n + 1) - leaps_before n)) 400 refl y h)
 
 -- the twelve months of a common year, and of a leap year
@@ -41,7 +41,7 @@ pub months : map (λ (y : ℕ). map (month_end y) (1 ∷ 2 ∷ 3 ∷ 4 ∷ 5 ∷
     ≡ (31 ∷ 28 ∷ 31 ∷ 30 ∷ 31 ∷ 30 ∷ 31 ∷ 31 ∷ 30 ∷ 31 ∷ 30 ∷ 31 ∷ [])
     ∷ (31 ∷ 29 ∷ 31 ∷ 30 ∷ 31 ∷ 30 ∷ 31 ∷ 31 ∷ 30 ∷ 31 ∷ 30 ∷ 31 ∷ [])
     ∷ []
-unfolding month_end leap_year if◌then◌else◌
+unfolding month_end leap_year when◌then◌else◌
 months = refl
 
 -- ---- any year and month
@@ -81,6 +81,6 @@ leap_again n y =
 
 -- such as 2000: a short year may be taken as it is
 pub end_full : (long : Bool) (y m : ℕ) → month_end (full_year long y) m ≡ month_end y m
-unfolding month_end full_year if◌then◌else◌
+unfolding month_end full_year when◌then◌else◌
 end_full true y m = refl
 end_full false y m = rw (leap_again 5 y)

@@ -6,7 +6,7 @@ use mathlib.Core.List.{List, [], ◌∷◌}
 use native.Mathlib.Omega.{arith}
 use lib.ListN.{get_or}
 use borrow.Author.Tests.{eqb-true, ne_eqb, le-leb, lt-leb}
-use Rattle.laws.specs.Choice.{if◌then◌else◌, ◌and◌, ◌=?◌, ◌<?◌}
+use Rattle.laws.specs.Choice.{when◌then◌else◌, ◌and◌, ◌=?◌, ◌<?◌}
 use Rattle.laws.proofs.Cases.{if_le, if_gt, and_true, and_false}
 use Rattle.laws.proofs.Tables.{passes, RightAt, right_at}
 use Rattle.field.specs.Formats.{format_of, signs_of, digits_in, base_of, limit_of, half_of, top_of, numeral_of}
@@ -20,11 +20,11 @@ abbrev pub below_table : List ℕ
 below_table = 0 ∷ 0 ∷ 0 ∷ 99 ∷ 128 ∷ 0 ∷ 0 ∷ 0 ∷ 0 ∷ 999 ∷ 9999 ∷ []
 
 above_rows : RightAt (λ (c : ℕ). (numeral_of (format_of c)).above) 11 above_table
-unfolding format_of signs_of digits_in base_of limit_of half_of top_of if◌then◌else◌ ◌and◌
+unfolding format_of signs_of digits_in base_of limit_of half_of top_of when◌then◌else◌ ◌and◌
 above_rows = refl
 
 below_rows : RightAt (λ (c : ℕ). (numeral_of (format_of c)).below) 11 below_table
-unfolding format_of signs_of digits_in base_of limit_of half_of top_of if◌then◌else◌ ◌and◌
+unfolding format_of signs_of digits_in base_of limit_of half_of top_of when◌then◌else◌ ◌and◌
 below_rows = refl
 
 pub above_at : (c : ℕ) → c ≤ 0x0a → get_or above_table c 0 ≡ (numeral_of (format_of c)).above
@@ -34,13 +34,13 @@ pub below_at : (c : ℕ) → c ≤ 0x0a → get_or below_table c 0 ≡ (numeral_
 below_at c h = right_at (λ (n : ℕ). (numeral_of (format_of n)).below) 11 below_table below_rows c (omega arith)
 
 -- codes below 5 have one byte, the others two
-pub limit_at : (c : ℕ) → c ≤ 0x0a → limit_of (format_of c) ≡ (if c <? 5 then 256 else 65536)
-unfolding format_of limit_of if◌then◌else◌ ◌and◌
-limit_at c h = eqb-true _ _ (passes (λ (n : ℕ). limit_of (format_of n) =? (if n <? 5 then 256 else 65536)) 11 refl c (omega arith))
+pub limit_at : (c : ℕ) → c ≤ 0x0a → limit_of (format_of c) ≡ (when c <? 5 then 256 else 65536)
+unfolding format_of limit_of when◌then◌else◌ ◌and◌
+limit_at c h = eqb-true _ _ (passes (λ (n : ℕ). limit_of (format_of n) =? (when n <? 5 then 256 else 65536)) 11 refl c (omega arith))
 
 -- a code past the last reads as the last
 pub past_last : (c : ℕ) → 0x0a < c → format_of c ≡ format_of 0x0a
-unfolding format_of if◌then◌else◌
+unfolding format_of when◌then◌else◌
 past_last c h =
     simp (
       ne_eqb c 0 (λ e. omega arith),

@@ -2,7 +2,7 @@
 use Prim.Native.Nat.{ℕ, ◌-◌, ◌^◌, ◌≤◌, ◌<◌}
 use native.Mathlib.Omega.{arith}
 use borrow.Author.Tests.{ltb-true, ltb-false}
-use Rattle.laws.specs.Choice.{if◌then◌else◌, ◌<?◌}
+use Rattle.laws.specs.Choice.{when◌then◌else◌, ◌<?◌}
 use Rattle.laws.proofs.Cases.{if_ind}
 use Rattle.field.specs.Settings.{digit_count}
 
@@ -12,7 +12,7 @@ pub record Shows (x n : ℕ) : Type 0 where
   pub least : 1 < n → 10 ^ (n - 1) ≤ x
 
 module _ (x : ℕ) (h : x < 100000) where
-  next : (m k : ℕ) {y : ℕ} → (x < m → Shows x k) → (m ≤ x → Shows x y) → Shows x (if x <? m then k else y)
+  next : (m k : ℕ) {y : ℕ} → (x < m → Shows x k) → (m ≤ x → Shows x y) → Shows x (when x <? m then k else y)
   next m k f g = if_ind (λ (n : ℕ). Shows x n) (x <? m) (λ e. f (ltb-true x m e)) (λ e. g (ltb-false x m e))
 
   pub places_right : Shows x (digit_count x)

@@ -5,7 +5,7 @@ use mathlib.Core.Bool.{Bool, true, false}
 use mathlib.Core.List.{List, [], ◌∷◌, map}
 use native.Mathlib.Omega.{arith}
 use borrow.Author.Tests.{leb-true, le-leb}
-use Rattle.laws.specs.Choice.{if◌then◌else◌, ◌and◌}
+use Rattle.laws.specs.Choice.{when◌then◌else◌, ◌and◌}
 use Rattle.laws.proofs.Cases.{and_i, and_l, and_r}
 use Rattle.field.specs.Calendar.{leap_year, month_end, full_year, RealDate}
 use Rattle.field.specs.Profiles.{profile_of, year_cell, end_of, cell_of}
@@ -95,5 +95,5 @@ abbrev pub is_real : Case → Bool
 is_real c = in_range (Date c.long) (c.day + 256 * c.month + 65536 * c.year)
 
 pub as_argued : map is_real argued ≡ map (λ (c : Case). c.real) argued
-unfolding argued leap_year month_end full_year profile_of end_of cell_of cells_of in_span within all_within in_range ◌and◌ if◌then◌else◌
+unfolding argued leap_year month_end full_year profile_of end_of cell_of cells_of in_span within all_within in_range ◌and◌ when◌then◌else◌
 as_argued = refl

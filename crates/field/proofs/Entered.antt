@@ -10,7 +10,7 @@ use lib.ListN.{length, get_or, drop, length-take}
 use lib.Seq.{get_or-take, get_or-drop}
 use lib.Dec.{lit≤}
 use borrow.Author.Tests.{leb-true, le-leb, eqb-true, eqb-false}
-use Rattle.laws.specs.Choice.{if◌then◌else◌, ◌=?◌}
+use Rattle.laws.specs.Choice.{when◌then◌else◌, ◌=?◌}
 use Rattle.laws.specs.Parts.{part_at}
 use Rattle.laws.specs.Digits.{from_low}
 use Rattle.laws.proofs.Cases.{if_ind, if_true, if_false, if_eq, by_test, and_i}
@@ -147,7 +147,7 @@ time_part long cs h i hi =
 -- a part that is stored and loaded is the same
 pub parts_again : (kind : Kind) (cs : List ℕ) → Whole kind → Fitting kind → RangeCells kind cs
     → (i : ℕ) → i < (profile_of kind).cells → get_or (cells_of kind (stored_in kind cs)) i 0 ≡ get_or cs i 0
-unfolding profile_of cell_of cells_of stored_in if◌then◌else◌
+unfolding profile_of cell_of cells_of stored_in when◌then◌else◌
 parts_again (Integer f) cs t k h = absurd t
 parts_again (Counter s) cs t k h = one_same cs _ (omega (arith, (h.within 0 (lit≤ tt)).high))
 parts_again (Time true) cs t k h =
@@ -187,7 +187,7 @@ range_stored Trigger cs k h e = and_i refl (parts_within Trigger cs tt k h)
 -- what ENTER stores fits the field's bytes
 pub stored_fits : (kind : Kind) (cs : List ℕ) → Fitting kind → RangeCells kind cs → stores kind cs ≡ true
     → stored_in kind cs < 256 ^ (profile_of kind).bytes
-unfolding stored_in stores profile_of cell_of if◌then◌else◌
+unfolding stored_in stores profile_of cell_of when◌then◌else◌
 stored_fits (Integer f) cs k h e = rw (← limit_bytes f) (digits_limit (numeral_of f) (format_sound f) cs e)
 stored_fits (Counter s) cs k h e = omega arith
 stored_fits (Time true) cs k h e =

@@ -5,7 +5,7 @@ use mathlib.Core.Bool.{Bool, true}
 use mathlib.Core.List.{List}
 use native.Mathlib.Omega.{arith}
 use borrow.Author.Tests.{le-leb, ltb-false}
-use Rattle.laws.specs.Choice.{if◌then◌else◌, ◌and◌, ◌<?◌}
+use Rattle.laws.specs.Choice.{when◌then◌else◌, ◌and◌, ◌<?◌}
 use Rattle.laws.specs.Bytes.{byte_at, word_at}
 use Rattle.laws.specs.Digits.{from_low, number_from}
 use Rattle.laws.proofs.Cases.{if_ind, if_le, and_i}
@@ -29,15 +29,15 @@ use Rattle.field.proofs.Ranges.{range_of_integer, range_of_time, range_of_date, 
 
 module _ (at : ℕ) (s : List ℕ) where
   pub two_bytes : number_of (value_at at 2 s) ≡ word_at s at
-  unfolding number_of from_low number_from if◌then◌else◌ word_at
+  unfolding number_of from_low number_from when◌then◌else◌ word_at
   two_bytes = rw (part_four at 2 s) (omega arith)
 
   pub three_bytes : number_of (value_at at 3 s) ≡ byte_at s at + 256 * byte_at s (at + 1) + 65536 * byte_at s (at + 2)
-  unfolding number_of from_low number_from if◌then◌else◌
+  unfolding number_of from_low number_from when◌then◌else◌
   three_bytes = rw (part_four at 3 s) (omega arith)
 
   pub four_bytes : number_of (value_at at 4 s) ≡ byte_at s at + 256 * byte_at s (at + 1) + 65536 * (byte_at s (at + 2) + 256 * byte_at s (at + 3))
-  unfolding number_of from_low number_from if◌then◌else◌
+  unfolding number_of from_low number_from when◌then◌else◌
   four_bytes = rw (part_four at 4 s) (omega arith)
 
 -- ---- integers
@@ -65,16 +65,16 @@ unfolding within
 within_ends c l h = and_i (le-leb _ _ l) (le-leb _ _ h)
 
 pub time_fits :
-    (long : Bool) (v : Value) → number_of v % 256 ≤ 23 → number_of v / 256 % 256 ≤ 59 → (if long then number_of v / 65536 % 256 else 0) ≤ 59 →
+    (long : Bool) (v : Value) → number_of v % 256 ≤ 23 → number_of v / 256 % 256 ≤ 59 → (when long then number_of v / 65536 % 256 else 0) ≤ 59 →
     settings_fit (Time long) v ≡ true
-unfolding settings_fit kind_fits ◌and◌ if◌then◌else◌
+unfolding settings_fit kind_fits ◌and◌ when◌then◌else◌
 time_fits long v h m s =
     range_of_time long (number_of v)
     ∙ and_i (and_i (within_ends (time_cell 0) (omega arith) h) (within_ends (time_cell 1) (omega arith) m)) (within_ends (time_cell 2) (omega arith) s)
 
 -- the day one of its month, in a year as it is given: a short one needs no 2000 added
 pub date_fits :
-    (long : Bool) (v : Value) → number_of v / 65536 ≤ (if long then 9999 else 99) → 1 ≤ number_of v / 256 % 256 → number_of v / 256 % 256 ≤ 12 →
+    (long : Bool) (v : Value) → number_of v / 65536 ≤ (when long then 9999 else 99) → 1 ≤ number_of v / 256 % 256 → number_of v / 256 % 256 ≤ 12 →
     1 ≤ number_of v % 256 → number_of v % 256 ≤ month_end (number_of v / 65536) (number_of v / 256 % 256) → settings_fit (Date long) v ≡ true
 unfolding settings_fit kind_fits ◌and◌
 date_fits long v y m n d e =

@@ -8,7 +8,7 @@ use native.Mathlib.Decide.{ℕ_discrete}
 use lib.ListN.{get_or}
 use lib.Dec.{lit≤}
 use borrow.Author.Tests.{leb-true, le-leb}
-use Rattle.laws.specs.Choice.{if◌then◌else◌}
+use Rattle.laws.specs.Choice.{when◌then◌else◌}
 use Rattle.laws.proofs.Cases.{if_ind, and_i, and_l, and_r}
 use Rattle.field.specs.Formats.{base_of}
 use Rattle.field.specs.Profiles.{profile_of, ends, flag, digit, cell_of, held_to}
@@ -101,7 +101,7 @@ flag_sane = record { sets = λ e. lit≤ tt; typed = λ e. absurd (false≢true 
 digit_sane : (b : ℕ) → 10 ≤ b → Sane (digit b)
 digit_sane b h = record { sets = λ e. omega arith; typed = λ e. (lit≤ tt, omega arith) }
 
-if_sane : (t : Bool) {x y : Cell} → Sane x → Sane y → Sane (if t then x else y)
+if_sane : (t : Bool) {x y : Cell} → Sane x → Sane y → Sane (when t then x else y)
 if_sane t p q = if_ind (λ (c : Cell). Sane c) t (λ e. p) (λ e. q)
 
 -- every row of the table is so

@@ -8,7 +8,7 @@ use lib.ListN.{length, get_or, length-append}
 use borrow.Author.Tests.{ltb-true, ltb-false, eqb-true, eqb-false}
 use lib.Dec.{lit≤}
 use mathlib.Core.Bool.{Bool, true, false}
-use Rattle.laws.specs.Choice.{if◌then◌else◌, ◌and◌, ◌=?◌, ◌<?◌}
+use Rattle.laws.specs.Choice.{when◌then◌else◌, ◌and◌, ◌=?◌, ◌<?◌}
 use Rattle.laws.specs.Digits.{digits_of}
 use Rattle.laws.proofs.Cases.{if_ind, if_max, if_ne, if_lt, if_ge, and_second}
 use Rattle.laws.proofs.Lists.{get_d_left, get_d_right}
@@ -35,7 +35,7 @@ range_of code = ((numeral_of (format_of code)).below, (numeral_of (format_of cod
 -- the ranges of dd, ddd, hh, sdd, sddd, DDD, DDDD, DDDDD, HHHH, SDDD, SDDDD
 pub ranges : map range_of (0 ∷ 1 ∷ 2 ∷ 3 ∷ 4 ∷ 5 ∷ 6 ∷ 7 ∷ 8 ∷ 9 ∷ 10 ∷ [])
     ≡ (0, 99) ∷ (0, 255) ∷ (0, 255) ∷ (99, 99) ∷ (128, 127) ∷ (0, 999) ∷ (0, 9999) ∷ (0, 65535) ∷ (0, 65535) ∷ (999, 999) ∷ (9999, 9999) ∷ []
-unfolding format_of signs_of digits_in base_of limit_of half_of top_of if◌then◌else◌
+unfolding format_of signs_of digits_in base_of limit_of half_of top_of when◌then◌else◌
 ranges = refl
 
 -- ---- cells of a number in digits
@@ -47,7 +47,7 @@ pub record DigitCells (n : Numeral) (cs : List ℕ) : Type 0 where
 
 -- the cells before the digits: the sign, if there is one
 abbrev pub front : Numeral → ℕ → List ℕ
-front n x = if n.signs =? 0 then [] else sign_of n x ∷ []
+front n x = when n.signs =? 0 then [] else sign_of n x ∷ []
 
 -- a sign is 0 or 1
 sign_small : (n : Numeral) (x : ℕ) → sign_of n x ≤ 1
@@ -150,15 +150,15 @@ range_of_option n w x = refl
 
 -- a time is its three cells: seconds that it has not are 0, which is within
 pub range_of_time : (long : Bool) (x : ℕ) → in_range (Time long) x
-    ≡ (within (time_cell 0) (x % 256) and within (time_cell 1) (x / 256 % 256)) and within (time_cell 2) (if long then x / 65536 % 256 else 0)
-unfolding in_range in_span all_within profile_of cells_of cell_of within ◌and◌ if◌then◌else◌
+    ≡ (within (time_cell 0) (x % 256) and within (time_cell 1) (x / 256 % 256)) and within (time_cell 2) (when long then x / 65536 % 256 else 0)
+unfolding in_range in_span all_within profile_of cells_of cell_of within ◌and◌ when◌then◌else◌
 range_of_time true x = refl
 range_of_time false x = sym (and_second _ refl)
 
 -- a date is its three, and the day one of its month
 pub range_of_date : (long : Bool) (x : ℕ) → in_range (Date long) x
     ≡ (within (year_cell long) (x / 65536) and within month_cell (x / 256 % 256)) and within (day_cell (month_end (full_year long (x / 65536)) (x / 256 % 256))) (x % 256)
-unfolding in_range in_span all_within profile_of cell_of end_of cells_of ◌and◌ if◌then◌else◌
+unfolding in_range in_span all_within profile_of cell_of end_of cells_of ◌and◌ when◌then◌else◌
 range_of_date long x = refl
 
 -- a trigger is always in range

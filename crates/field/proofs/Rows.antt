@@ -10,7 +10,7 @@ use lib.ListN.{length, get_or, set, get_or-eq_default}
 use lib.Seq.{get_or-set_same, get_or-set_other, set_out}
 use lib.Dec.{lit≤}
 use borrow.Author.Tests.{ltb-true, ltb-false, eqb-true, lt-ltb, le-ltb}
-use Rattle.laws.specs.Choice.{if◌then◌else◌, ◌and◌, ◌=?◌, ◌<?◌}
+use Rattle.laws.specs.Choice.{when◌then◌else◌, ◌and◌, ◌=?◌, ◌<?◌}
 use Rattle.laws.proofs.Cases.{if_ind, if_false, by_test, and_l}
 use Rattle.field.specs.Calendar.{full_year}
 use Rattle.field.specs.Profiles.{profile_of, day_cell, end_of, cell_of, open_day, held_to}
@@ -65,7 +65,7 @@ record Around (own held : Cell) : Type 0 where
   high : own.high ≤ held.high
 
 open_around : (kind : Kind) (w : Work) (i : ℕ) → open_day kind w i ≡ true → Around (cell_of kind w.cells i) (day_cell 31)
-unfolding open_day cell_of if◌then◌else◌
+unfolding open_day cell_of when◌then◌else◌
 open_around (Integer f) w i e = absurd (false≢true e)
 open_around (Counter s) w i e = absurd (false≢true e)
 open_around (Time long) w i e = absurd (false≢true e)
@@ -83,7 +83,7 @@ around kind w i = if_ind (Around (cell_of kind w.cells i)) (open_day kind w i) (
 
 -- a kind without parts takes nothing from the working copy
 row_plain : (kind : Kind) (w v : Work) → (profile_of kind).parts ≡ false → (i : ℕ) → held_to kind v i ≡ held_to kind w i
-unfolding profile_of held_to open_day cell_of if◌then◌else◌
+unfolding profile_of held_to open_day cell_of when◌then◌else◌
 row_plain (Integer f) w v e i = refl
 row_plain (Counter s) w v e i = refl
 row_plain (Time long) w v e i = refl
@@ -95,7 +95,7 @@ row_plain Trigger w v e i = refl
 -- any other no more than a date's day, from its part on
 row_by_day : (kind : Kind) (w v : Work) (i : ℕ) → i < (profile_of kind).cells → ((long : Bool) → i ≡ 2 → held_to (Date long) v 2 ≡ held_to (Date long) w 2)
     → held_to kind v i ≡ held_to kind w i
-unfolding profile_of held_to open_day cell_of ◌and◌ if◌then◌else◌
+unfolding profile_of held_to open_day cell_of ◌and◌ when◌then◌else◌
 row_by_day (Integer f) w v i h e = refl
 row_by_day (Counter s) w v i h e = refl
 row_by_day (Time long) w v i h e = refl
@@ -109,11 +109,11 @@ row_by_day Trigger w v i h e = refl
 
 -- which is 31 before, and its month's end then
 day_early : (long : Bool) (w : Work) → w.at < 2 → held_to (Date long) w 2 ≡ day_cell 31
-unfolding held_to open_day cell_of ◌and◌ if◌then◌else◌
+unfolding held_to open_day cell_of ◌and◌ when◌then◌else◌
 day_early long w h = rw (lt-ltb w.at 2 h)
 
 day_late : (long : Bool) (w : Work) → 2 ≤ w.at → held_to (Date long) w 2 ≡ day_cell (end_of long w.cells)
-unfolding held_to open_day cell_of ◌and◌ if◌then◌else◌
+unfolding held_to open_day cell_of ◌and◌ when◌then◌else◌
 day_late long w h = rw (le-ltb w.at 2 h)
 
 -- ---- the chosen cell set, another chosen

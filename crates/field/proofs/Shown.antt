@@ -7,7 +7,7 @@ use native.Mathlib.Omega.{arith}
 use lib.ListN.{length, get_or, drop, length-drop}
 use lib.Seq.{length-take-le, get_or-take, get_or-drop}
 use borrow.Author.Tests.{ltb-true, ltb-false, eqb-true, eqb-false, ne_eqb}
-use Rattle.laws.specs.Choice.{if◌then◌else◌, ◌and◌, ◌=?◌, ◌<?◌}
+use Rattle.laws.specs.Choice.{when◌then◌else◌, ◌and◌, ◌=?◌, ◌<?◌}
 use Rattle.laws.specs.Parts.{part_at}
 use Rattle.laws.specs.Digits.{digits_of}
 use Rattle.laws.proofs.Cases.{if_false, if_eq, if_ne, by_test, and_l, and_r, and_second}
@@ -51,8 +51,8 @@ module _ (n : Numeral) (s : Sound n) (cs : List ℕ) (e : storable n cs ≡ true
   first t z m = sym (if_ne n.signs 0 false _ z) ∙ m
 
   -- its sign is that of the cells, with '+' for minus zero
-  pub sign_again : DigitCells n cs → (n.signs ≡ 0 → ⊥) → sign_of n (of_digits n cs) ≡ (if null_minus n cs then 1 else get_or cs 0 0)
-  unfolding ◌and◌ if◌then◌else◌
+  pub sign_again : DigitCells n cs → (n.signs ≡ 0 → ⊥) → sign_of n (of_digits n cs) ≡ (when null_minus n cs then 1 else get_or cs 0 0)
+  unfolding ◌and◌ when◌then◌else◌
   sign_again h z =
       by_sign n s cs e
       (λ m u q. rw (q, sign_up n (shown_by n cs) u, m, plus (eqb-false (get_or cs 0 0) 0 (first false z m))))
@@ -72,10 +72,10 @@ module _ (n : Numeral) (s : Sound n) (cs : List ℕ) (h : DigitCells n cs) where
 
   -- the cells of the number that is stored are those shown, with '+' for minus zero
   pub numeral_again : n.signs + n.digits ≤ length cs → storable n cs ≡ true → (i : ℕ) → i < n.signs + n.digits
-      → get_or (in_digits n (of_digits n cs)) i 0 ≡ (if null_minus n cs and (i =? 0) then 1 else get_or cs i 0)
+      → get_or (in_digits n (of_digits n cs)) i 0 ≡ (when null_minus n cs and (i =? 0) then 1 else get_or cs i 0)
   numeral_again l e i hi = by_test (i <? n.signs) front back
     where
-      front : i <? n.signs ≡ true → get_or (in_digits n (of_digits n cs)) i 0 ≡ (if null_minus n cs and (i =? 0) then 1 else get_or cs i 0)
+      front : i <? n.signs ≡ true → get_or (in_digits n (of_digits n cs)) i 0 ≡ (when null_minus n cs and (i =? 0) then 1 else get_or cs i 0)
       front t =
           let lt = ltb-true i n.signs t in
           let z : i ≡ 0 = omega (arith, s.signs) in
@@ -86,7 +86,7 @@ module _ (n : Numeral) (s : Sound n) (cs : List ℕ) (h : DigitCells n cs) where
           by_test (null_minus n cs and (i =? 0))
           (λ t. absurd (minus_sign n s cs e (and_l _ _ (and_l _ _ t)) (omega (arith, eqb-true i 0 (and_r _ _ t))))) (λ t. t)
 
-      back : i <? n.signs ≡ false → get_or (in_digits n (of_digits n cs)) i 0 ≡ (if null_minus n cs and (i =? 0) then 1 else get_or cs i 0)
+      back : i <? n.signs ≡ false → get_or (in_digits n (of_digits n cs)) i 0 ≡ (when null_minus n cs and (i =? 0) then 1 else get_or cs i 0)
       back t =
           let ge = ltb-false i n.signs t in
           let d : i - n.signs < n.digits = omega arith in
@@ -116,12 +116,12 @@ minus_zero Trigger cs = false
 -- the cells that were shown come back, with '+' for minus zero
 pub shown_again : (kind : Kind) (cs : List ℕ) → Fitting kind → RangeCells kind cs → (profile_of kind).cells ≤ length cs → stores kind cs ≡ true
     → (i : ℕ) → i < (profile_of kind).cells
-    → get_or (work_of (cells_of kind (stored_in kind cs))).cells i 0 ≡ (if minus_zero kind cs and (i =? 0) then 1 else get_or cs i 0)
-unfolding minus_zero minus profile_of cells_of stored_in stores ◌and◌ if◌then◌else◌
+    → get_or (work_of (cells_of kind (stored_in kind cs))).cells i 0 ≡ (when minus_zero kind cs and (i =? 0) then 1 else get_or cs i 0)
+unfolding minus_zero minus profile_of cells_of stored_in stores ◌and◌ when◌then◌else◌
 shown_again kind cs k h l e i hi = work_at kind (cells_of kind (stored_in kind cs)) i hi ∙ go kind k h l e hi
   where
     go : (kind : Kind) → Fitting kind → RangeCells kind cs → (profile_of kind).cells ≤ length cs → stores kind cs ≡ true → i < (profile_of kind).cells
-        → get_or (cells_of kind (stored_in kind cs)) i 0 ≡ (if minus_zero kind cs and (i =? 0) then 1 else get_or cs i 0)
+        → get_or (cells_of kind (stored_in kind cs)) i 0 ≡ (when minus_zero kind cs and (i =? 0) then 1 else get_or cs i 0)
     go (Integer f) k h l e hi = numeral_again (numeral_of f) (format_sound f) cs (integer_digits f cs h) l e i hi
     go (Counter s) k h l e hi = parts_again (Counter s) cs tt k h i hi
     go (Time long) k h l e hi = parts_again (Time long) cs tt k h i hi

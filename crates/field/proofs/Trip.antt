@@ -9,7 +9,7 @@ use lib.ListN.{length, get_or}
 use lib.Seq.{drop_at}
 use lib.Dec.{lit≤}
 use borrow.Author.Tests.{leb-true, leb-false, ltb-true, le-leb, lt-ltb, eqb-true, eqb-false}
-use Rattle.laws.specs.Choice.{if◌then◌else◌, ◌=?◌, ◌≤?◌}
+use Rattle.laws.specs.Choice.{when◌then◌else◌, ◌=?◌, ◌≤?◌}
 use Rattle.laws.specs.Overwrite.{fit}
 use Rattle.laws.specs.Digits.{digits_of, low_first, from_low}
 use Rattle.laws.proofs.Cases.{if_ind, if_true, if_false, if_le, if_gt, by_test, and_i, and_l, and_r}
@@ -129,8 +129,8 @@ module _ (n : Numeral) (s : Sound n) (x : ℕ) (e : spans n x ≡ true) where
 -- ---- every kind
 
 -- a time's number is made of its bytes
-time_back : (long : Bool) (x : ℕ) → x < 256 ^ (if long then 3 else 2) → x % 256 + 256 * (x / 256 % 256) + (if long then 65536 * (if long then x / 65536 % 256 else 0) else 0) ≡ x
-unfolding if◌then◌else◌
+time_back : (long : Bool) (x : ℕ) → x < 256 ^ (when long then 3 else 2) → x % 256 + 256 * (x / 256 % 256) + (when long then 65536 * (when long then x / 65536 % 256 else 0) else 0) ≡ x
+unfolding when◌then◌else◌
 time_back true x h = omega arith
 time_back false x h = omega arith
 

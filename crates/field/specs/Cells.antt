@@ -1,7 +1,7 @@
 -- A field's number as the cells of a visit, and back; ranges (01, Fields).
 use Rattle.std.specs.Prelude.{ℕ, zero, suc, ◌+◌, ◌-◌, ◌*◌, ◌/◌, ◌%◌, Bool, true, false, List, [], ◌∷◌, ◌++◌}
 use Rattle.std.specs.Prelude.{get_or}
-use Rattle.laws.specs.Choice.{if◌then◌else◌, ◌and◌, ◌=?◌, ◌<?◌, ◌≤?◌}
+use Rattle.laws.specs.Choice.{when◌then◌else◌, ◌and◌, ◌=?◌, ◌<?◌, ◌≤?◌}
 use Rattle.laws.specs.Parts.{part_at}
 use Rattle.laws.specs.Overwrite.{fit}
 use Rattle.laws.specs.Digits.{digits_of, number_from}
@@ -20,19 +20,19 @@ use Rattle.field.specs.declared.value.Value.{Value}
 
 -- in range: from 0 to above, or one of the numbers that stand for -below to -1
 unfoldable pub spans : Numeral → ℕ → Bool
-spans n x = if x ≤? n.above then true else ((n.limit - n.below) ≤? x) and (x <? n.limit)
+spans n x = when x ≤? n.above then true else ((n.limit - n.below) ≤? x) and (x <? n.limit)
 
 -- how far a number in range is from 0
 unfoldable pub distance : Numeral → ℕ → ℕ
-distance n x = if x ≤? n.above then x else n.limit - x
+distance n x = when x ≤? n.above then x else n.limit - x
 
 -- 01, Fields: the sign of a number in range is '+' for 0 and above; a sign cell holds 1 for '+'
 unfoldable pub sign_of : Numeral → ℕ → ℕ
-sign_of n x = if x ≤? n.above then 1 else 0
+sign_of n x = when x ≤? n.above then 1 else 0
 
 -- the sign if there is one, then the digits
 unfoldable pub in_digits : Numeral → ℕ → List ℕ
-in_digits n x = (if n.signs =? 0 then [] else sign_of n x ∷ [])
+in_digits n x = (when n.signs =? 0 then [] else sign_of n x ∷ [])
     ++ digits_of n.base n.digits (distance n x)
 
 -- what the digit cells show, and whether the sign cell shows '-'
@@ -40,15 +40,15 @@ unfoldable pub shown_by : Numeral → List ℕ → ℕ
 shown_by n cs = number_from n.base 0 (part_at n.signs n.digits cs)
 
 unfoldable pub minus : Numeral → List ℕ → Bool
-minus n cs = if n.signs =? 0 then false else get_or cs 0 0 =? 0
+minus n cs = when n.signs =? 0 then false else get_or cs 0 0 =? 0
 
 -- 01, Keys: ENTER stores an integer if it is in range
 unfoldable pub storable : Numeral → List ℕ → Bool
-storable n cs = if minus n cs then shown_by n cs ≤? n.below else shown_by n cs ≤? n.above
+storable n cs = when minus n cs then shown_by n cs ≤? n.below else shown_by n cs ≤? n.above
 
 -- the number that the cells stand for; 01, Fields: a minus before zero is not kept
 unfoldable pub of_digits : Numeral → List ℕ → ℕ
-of_digits n cs = if minus n cs then (n.limit - shown_by n cs) % n.limit else shown_by n cs
+of_digits n cs = when minus n cs then (n.limit - shown_by n cs) % n.limit else shown_by n cs
 
 -- ---- every kind
 
@@ -60,7 +60,7 @@ biased x = (x + 32768) % 65536
 unfoldable pub cells_of : Kind → ℕ → List ℕ
 cells_of (Integer f) x = in_digits (numeral_of f) x
 cells_of (Counter s) x = biased x ∷ []
-cells_of (Time long) x = x % 256 ∷ x / 256 % 256 ∷ (if long then x / 65536 % 256 else 0) ∷ []
+cells_of (Time long) x = x % 256 ∷ x / 256 % 256 ∷ (when long then x / 65536 % 256 else 0) ∷ []
 cells_of (Date long) x = x / 65536 ∷ x / 256 % 256 ∷ x % 256 ∷ []
 cells_of (Switch n) x = in_digits (bits_of n) x
 cells_of (Option n w) x = x ∷ []
@@ -70,7 +70,7 @@ cells_of Trigger x = 0 ∷ []
 unfoldable pub stored_in : Kind → List ℕ → ℕ
 stored_in (Integer f) cs = of_digits (numeral_of f) cs
 stored_in (Counter s) cs = biased (get_or cs 0 0)
-stored_in (Time long) cs = get_or cs 0 0 + 256 * get_or cs 1 0 + (if long then 65536 * get_or cs 2 0 else 0)
+stored_in (Time long) cs = get_or cs 0 0 + 256 * get_or cs 1 0 + (when long then 65536 * get_or cs 2 0 else 0)
 stored_in (Date long) cs = get_or cs 2 0 + 256 * get_or cs 1 0 + 65536 * get_or cs 0 0
 stored_in (Switch n) cs = of_digits (bits_of n) cs
 stored_in (Option n w) cs = get_or cs 0 0
@@ -127,7 +127,7 @@ work_of cs = record { cells = fit 0 most_cells cs; at = 0 }
 
 -- 01, Fields: a visit starts from the sheet's value, or from the default if that is out of range
 unfoldable pub started : Kind → Value → Value → Work
-started k v d = work_of (cells_of k (if in_range k (number_of v) then number_of v else number_of d))
+started k v d = work_of (cells_of k (when in_range k (number_of v) then number_of v else number_of d))
 
 -- the value that the cells stand for; the last ENTER of a visit stores it where `stores` holds
 unfoldable pub finished : Kind → Work → Value

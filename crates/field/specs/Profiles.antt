@@ -1,7 +1,7 @@
 -- What a field is (01, Fields and Keys, and 7.5 for its bytes) as two tables: a row for each kind, and a row
 -- for each cell.
 use Rattle.std.specs.Prelude.{ℕ, ◌+◌, ◌-◌, Bool, true, false, List, get_or}
-use Rattle.laws.specs.Choice.{if◌then◌else◌, ◌and◌, ◌=?◌, ◌<?◌}
+use Rattle.laws.specs.Choice.{when◌then◌else◌, ◌and◌, ◌=?◌, ◌<?◌}
 use Rattle.field.specs.Formats.{signs_of, digits_in, base_of, bits_in}
 use Rattle.field.specs.Calendar.{month_end, full_year}
 use Rattle.field.specs.declared.kind.CounterSettings.{CounterSettings}
@@ -38,10 +38,10 @@ stepping c b = record { cells = c; bytes = b; moves = false; slides = false; par
 
 -- 01, Fields and Keys: a row for each kind
 unfoldable pub profile_of : Kind → Profile
-profile_of (Integer f) = moving (signs_of f + digits_in f) (if f.wide then 2 else 1)
+profile_of (Integer f) = moving (signs_of f + digits_in f) (when f.wide then 2 else 1)
 profile_of (Counter s) = stepping 1 2
-profile_of (Time long) = parted (if long then 3 else 2) (if long then 3 else 2)
-profile_of (Date long) = parted 3 (if long then 4 else 3)
+profile_of (Time long) = parted (when long then 3 else 2) (when long then 3 else 2)
+profile_of (Date long) = parted 3 (when long then 4 else 3)
 profile_of (Switch n) = moving (bits_in n) 4
 profile_of (Option n w) = sliding 1 1
 profile_of Trigger = firing 1 0
@@ -63,14 +63,14 @@ abbrev pub counter_cell : CounterSettings → Cell
 counter_cell s = ends s.min s.max s.step
 
 abbrev pub time_cell : ℕ → Cell
-time_cell i = if i =? 0 then ends 0 23 1 else ends 0 59 1
+time_cell i = when i =? 0 then ends 0 23 1 else ends 0 59 1
 
 abbrev pub option_cell : ℕ → Cell
 option_cell n = ends 0 (n - 1) 1
 
 -- 01, Fields: the parts of a date, a day from 1 to a given last one
 abbrev pub year_cell : Bool → Cell
-year_cell long = ends 0 (if long then 9999 else 99) 1
+year_cell long = ends 0 (when long then 9999 else 99) 1
 
 abbrev pub month_cell : Cell
 month_cell = ends 1 12 1
@@ -89,12 +89,12 @@ end_of long cs = month_end (full_year long (get_or cs 0 0)) (get_or cs 1 0)
 -- 01, Fields: a row for each cell of a kind, from the left, asked with the cells that it stands among. A
 -- date's are year, month, day; only its day takes anything from the others, its high end
 unfoldable pub cell_of : Kind → List ℕ → ℕ → Cell
-cell_of (Integer f) cs i = if i <? signs_of f then flag else digit (base_of f)
+cell_of (Integer f) cs i = when i <? signs_of f then flag else digit (base_of f)
 cell_of (Counter s) cs i = counter_cell s
 cell_of (Time long) cs i = time_cell i
 cell_of (Date long) cs i =
-    if i =? 0 then year_cell long
-    else if i =? 1 then month_cell
+    when i =? 0 then year_cell long
+    else when i =? 1 then month_cell
     else day_cell (end_of long cs)
 cell_of (Switch n) cs i = flag
 cell_of (Option n w) cs i = option_cell n
@@ -112,4 +112,4 @@ open_day Trigger w i = false
 
 -- R49: the row that a cell of a working copy is held to is its own, but such a day may be any of 1 to 31
 unfoldable pub held_to : Kind → Work → ℕ → Cell
-held_to k w i = if open_day k w i then day_cell 31 else cell_of k w.cells i
+held_to k w i = when open_day k w i then day_cell 31 else cell_of k w.cells i

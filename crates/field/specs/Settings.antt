@@ -1,6 +1,6 @@
 -- The settings that an image may give a field (01, Fields; refusal 9).
 use Rattle.std.specs.Prelude.{ℕ, ◌+◌, ◌-◌, Bool, true}
-use Rattle.laws.specs.Choice.{if◌then◌else◌, ◌and◌, ◌<?◌, ◌≤?◌}
+use Rattle.laws.specs.Choice.{when◌then◌else◌, ◌and◌, ◌<?◌, ◌≤?◌}
 use Rattle.field.specs.Formats.{max_bits}
 use Rattle.field.specs.Values.{number_of}
 use Rattle.field.specs.Cells.{in_range}
@@ -12,12 +12,12 @@ use Rattle.field.specs.declared.value.Value.{Value}
 
 -- how many decimal digits a number of at most five digits has
 unfoldable pub digit_count : ℕ → ℕ
-digit_count x = if x <? 10 then 1 else if x <? 100 then 2 else if x <? 1000 then 3 else if x <? 10000 then 4
+digit_count x = when x <? 10 then 1 else when x <? 100 then 2 else when x <? 1000 then 3 else when x <? 10000 then 4
     else 5
 
 -- the cells of a counter's biased number; 01, Fields: '-' only below 0
 unfoldable pub counted_cells : ℕ → ℕ
-counted_cells x = if x <? 32768 then 1 + digit_count (32768 - x) else digit_count (x - 32768)
+counted_cells x = when x <? 32768 then 1 + digit_count (32768 - x) else digit_count (x - 32768)
 
 -- 01, Fields: a counter's step is at least 1, as a signed number
 unfoldable pub step_fits : CounterSettings → Bool

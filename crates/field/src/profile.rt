@@ -1,6 +1,6 @@
 // The two tables that every key and every check goes by: a row for each kind, and a row for each cell.
 ghost use Rattle.std.specs.Prelude.{◌≡◌, ℕ, Bool, List};
-ghost use Rattle.laws.specs.Choice.{if◌then◌else◌};
+ghost use Rattle.laws.specs.Choice.{when◌then◌else◌};
 ghost use Rattle.field.specs.Formats.{base_of};
 ghost use Rattle.field.specs.Profiles.{moving, sliding, parted, firing, stepping, profile_of, ends};
 ghost use Rattle.field.specs.Profiles.{flag, digit, counter_cell, time_cell, option_cell, year_cell};
@@ -35,7 +35,7 @@ pub struct Cell {
 }
 
 fn long_or(long: bool, a: u8, b: u8) -> u8
-    ensures { result ≡ if long then a else b }
+    ensures { result ≡ when long then a else b }
 {
     if long { a } else { b }
 }

@@ -1,6 +1,6 @@
 // A field's bytes: as one number, and in the sheet.
 ghost use Rattle.std.specs.Prelude.{◌≡◌, ◌<◌, length, get_or};
-ghost use Rattle.laws.specs.Choice.{if◌then◌else◌, ◌<?◌};
+ghost use Rattle.laws.specs.Choice.{when◌then◌else◌, ◌<?◌};
 ghost use Rattle.laws.specs.Parts.{put_at};
 ghost use Rattle.field.specs.Values.{bytes_of, value_at, number_of, value_from};
 
@@ -60,7 +60,7 @@ impl Value {
 
 // A byte that counts: 0 from the count on.
 fn if_below(i: u8, count: u8, byte: u8) -> u8
-    ensures { result ≡ if i <? count then byte else 0 }
+    ensures { result ≡ when i <? count then byte else 0 }
 {
     if i < count { byte } else { 0 }
 }

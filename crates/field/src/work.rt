@@ -1,6 +1,6 @@
 // The working copy of a visit: from a field's bytes to cells and back, for every kind.
 ghost use Rattle.std.specs.Prelude.{◌≡◌, [], ◌∷◌, ◌*◌, ◌/◌, ◌%◌, ◌<◌, get_or};
-ghost use Rattle.laws.specs.Choice.{if◌then◌else◌, ◌and◌};
+ghost use Rattle.laws.specs.Choice.{when◌then◌else◌, ◌and◌};
 ghost use Rattle.field.specs.Calendar.{month_end, full_year};
 ghost use Rattle.field.specs.Profiles.{time_cell, year_cell, month_cell, day_cell, held_to};
 ghost use Rattle.field.specs.Cells.{biased, cells_of, stored_in, stores, within, legal, in_range, work_of};
@@ -28,7 +28,7 @@ fn bias(x: u64) -> u64
 
 // The seconds of a time, where it has them.
 fn third(long: bool, x: u32) -> u32
-    ensures { result ≡ if long then x / 65536 % 256 else 0 }
+    ensures { result ≡ when long then x / 65536 % 256 else 0 }
 {
     if long { x / 65536 % 256 } else { 0 }
 }
@@ -78,7 +78,7 @@ impl Work {
 
     // The third byte of a time, where it has seconds.
     fn seconds(self, long: bool) -> u64
-        ensures { (result ≡ if long then 65536 * get_or self.cells 2 0 else 0) × (result < 281474976710656) }
+        ensures { (result ≡ when long then 65536 * get_or self.cells 2 0 else 0) × (result < 281474976710656) }
     {
         if long {
             return 65536 * self.cell(2);

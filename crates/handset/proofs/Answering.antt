@@ -7,7 +7,7 @@ use mathlib.Core.List.{List}
 use native.Mathlib.Omega.{arith}
 use lib.ListN.{length}
 use borrow.Author.Tests.{eqb-true, eqb-false, ltb-true}
-use Rattle.laws.specs.Choice.{if◌then◌else◌, ◌=?◌, ◌<?◌}
+use Rattle.laws.specs.Choice.{when◌then◌else◌, ◌=?◌, ◌<?◌}
 use Rattle.laws.proofs.Cases.{if_ind, by_test, and_l, and_r}
 use Rattle.field.specs.declared.kind.ImagePlace.{ImagePlace}
 use Rattle.field.specs.declared.record.Field.{Field}
@@ -47,7 +47,7 @@ pub record Plain (m : Mode) (r : Stepped) : Type 0 where
 
 module _ {m : Mode} where
   -- a choice of steps, and the two answers of browsing and of an entry
-  by_plain : (t : Bool) {x y : Stepped} → (t ≡ true → Plain m x) → (t ≡ false → Plain m y) → Plain m (if t then x else y)
+  by_plain : (t : Bool) {x y : Stepped} → (t ≡ true → Plain m x) → (t ≡ false → Plain m y) → Plain m (when t then x else y)
   by_plain t f g = if_ind (Plain m) t f g
 
   taken_plain : (s : Session) → Plain m (taken s)

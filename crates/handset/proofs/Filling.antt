@@ -9,7 +9,7 @@ use native.Mathlib.Nat.{min-eq_left, min-eq_right}
 use native.Mathlib.Omega.{arith}
 use lib.ListN.{length, set, length-set, length-map}
 use borrow.Author.Tests.{ltb-true, ltb-false}
-use Rattle.laws.specs.Choice.{if◌then◌else◌, ◌=?◌, ◌<?◌}
+use Rattle.laws.specs.Choice.{when◌then◌else◌, ◌=?◌, ◌<?◌}
 use Rattle.laws.specs.Overwrite.{over, fit}
 use Rattle.laws.proofs.Cases.{by_test, if_eq, if_ne, if_lt, if_ge}
 use Rattle.laws.proofs.Overwriting.{over_nil, over_out, over_cons, over_blank, length_fit}
@@ -46,11 +46,11 @@ one_dropped f s ps k h e = rw (if_ge k (length ps) (k + 1) k h, if_ge k (length 
 
 -- a component, if it is a field
 pub held_taken : (c : Component) (s : Gathered) {t : Gathered} → c.fielded ≡ true → t ≡ take_one c.field s → t ≡ take_all (held_by c) s
-unfolding take_all if◌then◌else◌
+unfolding take_all when◌then◌else◌
 held_taken c s h e = e ∙ rw h
 
 pub none_taken : (c : Component) {s : Gathered} → c.fielded ≡ false → s ≡ take_all (held_by c) s
-unfolding take_all if◌then◌else◌
+unfolding take_all when◌then◌else◌
 none_taken c h = rw h
 
 module _ (im : List ℕ) where
@@ -61,28 +61,28 @@ module _ (im : List ℕ) where
   at_join : (ps qs : List ℕ) (s : Gathered) → gathered_at (ps ++ qs) s ≡ gathered_at qs (gathered_at ps s)
   at_join ps qs s = ap (λ (fs : List Field). take_all fs s) (among_join im ps qs) ∙ gathered_join (fields_among im ps) (fields_among im qs) s
 
-  at_if : (t : Bool) (ps : List ℕ) (s : Gathered) → gathered_at (if t then ps else []) s ≡ (if t then gathered_at ps s else s)
-  unfolding if◌then◌else◌ fields_among take_all
+  at_if : (t : Bool) (ps : List ℕ) (s : Gathered) → gathered_at (when t then ps else []) s ≡ (when t then gathered_at ps s else s)
+  unfolding when◌then◌else◌ fields_among take_all
   at_if true ps s = refl
   at_if false ps s = refl
 
   -- ---- components
 
   module _ (left p : ℕ) (s t : Gathered) (c : Component) (h : 0 < left) (e : c ≡ component_at im p) (f : t ≡ take_all (held_by c) s) where
-    components_one : gathered_at (components_from im left p) s ≡ gathered_at (if c.last then [] else components_from im (left - 1) c.next.0) t
+    components_one : gathered_at (components_from im left p) s ≡ gathered_at (when c.last then [] else components_from im (left - 1) c.next.0) t
     unfolding components_from fields_among
     components_one =
         let z : left ≡ suc (left - 1) = omega arith in
         ap (λ (n : ℕ). gathered_at (components_from im n p) s) z
-        ∙ ap (λ (x : Component). take_all (held_by x ++ fields_among im (if x.last then [] else components_from im (left - 1) x.next.0)) s) (sym e)
-        ∙ gathered_join (held_by c) _ s ∙ ap (gathered_at (if c.last then [] else components_from im (left - 1) c.next.0)) (sym f)
+        ∙ ap (λ (x : Component). take_all (held_by x ++ fields_among im (when x.last then [] else components_from im (left - 1) x.next.0)) s) (sym e)
+        ∙ gathered_join (held_by c) _ s ∙ ap (gathered_at (when c.last then [] else components_from im (left - 1) c.next.0)) (sym f)
 
     pub components_last : c.last ≡ true → gathered_at (components_from im left p) s ≡ t
-    unfolding fields_among take_all if◌then◌else◌
+    unfolding fields_among take_all when◌then◌else◌
     components_last l = components_one ∙ rw l
 
     pub components_next : c.last ≡ false → gathered_at (components_from im left p) s ≡ gathered_at (components_from im (left - 1) c.next.0) t
-    unfolding if◌then◌else◌
+    unfolding when◌then◌else◌
     components_next l = components_one ∙ rw l
 
   pub components_done : (left p : ℕ) (s : Gathered) → left ≤ 0 → gathered_at (components_from im left p) s ≡ s
@@ -97,31 +97,31 @@ module _ (im : List ℕ) where
     rest n p s = gathered_at (lines_reach im (table_reach im below) (lines_from im (100 - n) p)) s
 
     module _ (n p : ℕ) (s u t : Gathered) (h : Head) (few : n < 100) (e : h ≡ head_at im p) (f : u ≡ gathered_at (rest_of_line im h.component.0) s)
-        (g : t ≡ if h.submenu then gathered_at (table_reach im below h.table.0) u else u) where
+        (g : t ≡ when h.submenu then gathered_at (table_reach im below h.table.0) u else u) where
       line_one : gathered_at (line_reach im (table_reach im below) p) s ≡ t
       unfolding line_reach components_of
       line_one =
-          ap (λ (x : Head). gathered_at (rest_of_line im x.component.0 ++ (if x.submenu then table_reach im below x.table.0 else [])) s) (sym e)
+          ap (λ (x : Head). gathered_at (rest_of_line im x.component.0 ++ (when x.submenu then table_reach im below x.table.0 else [])) s) (sym e)
           ∙ at_join (rest_of_line im h.component.0) _ s ∙ at_if h.submenu (table_reach im below h.table.0) _
-          ∙ ap (λ (x : Gathered). if h.submenu then gathered_at (table_reach im below h.table.0) x else x) (sym f) ∙ sym g
+          ∙ ap (λ (x : Gathered). when h.submenu then gathered_at (table_reach im below h.table.0) x else x) (sym f) ∙ sym g
 
-      lines_one : rest n p s ≡ gathered_at (lines_reach im (table_reach im below) (if h.last then [] else lines_from im (100 - (n + 1)) h.next.0)) t
+      lines_one : rest n p s ≡ gathered_at (lines_reach im (table_reach im below) (when h.last then [] else lines_from im (100 - (n + 1)) h.next.0)) t
       unfolding lines_from lines_reach
       lines_one =
           let z : 100 - n ≡ suc (100 - (n + 1)) = omega arith in
           ap (λ (k : ℕ). gathered_at (lines_reach im (table_reach im below) (lines_from im k p)) s) z
           ∙ ap
           (λ (x : Head). gathered_at (line_reach im (table_reach im below) p
-          ++ lines_reach im (table_reach im below) (if x.last then [] else lines_from im (100 - (n + 1)) x.next.0)) s) (sym e)
+          ++ lines_reach im (table_reach im below) (when x.last then [] else lines_from im (100 - (n + 1)) x.next.0)) s) (sym e)
           ∙ at_join (line_reach im (table_reach im below) p) _ s
-          ∙ ap (gathered_at (lines_reach im (table_reach im below) (if h.last then [] else lines_from im (100 - (n + 1)) h.next.0))) line_one
+          ∙ ap (gathered_at (lines_reach im (table_reach im below) (when h.last then [] else lines_from im (100 - (n + 1)) h.next.0))) line_one
 
       pub lines_last : h.last ≡ true → rest n p s ≡ t
-      unfolding lines_reach fields_among take_all if◌then◌else◌
+      unfolding lines_reach fields_among take_all when◌then◌else◌
       lines_last l = lines_one ∙ rw l
 
       pub lines_next : h.last ≡ false → rest n p s ≡ rest (n + 1) h.next.0 t
-      unfolding if◌then◌else◌
+      unfolding when◌then◌else◌
       lines_next l = lines_one ∙ rw l
 
     pub lines_done : (n p : ℕ) (s : Gathered) → 100 ≤ n → rest n p s ≡ s
@@ -200,7 +200,7 @@ module _ (im : List ℕ) (extent k : ℕ) (q : k ≡ refusal_of im extent) (ps :
   pub none_listed : (k ≡ 0 → ⊥) → (k ≡ refusal_of im extent) × ((0 ≡ length (places_listed im extent)) × (ps ≡ fit 0 256 (places_listed im extent)))
   unfolding places_listed
   none_listed h =
-      let e : (if refusal_of im extent =? 0 then field_places im else []) ≡ [] = if_ne _ 0 _ _ (λ z. h (q ∙ z)) in
+      let e : (when refusal_of im extent =? 0 then field_places im else []) ≡ [] = if_ne _ 0 _ _ (λ z. h (q ∙ z)) in
       (q, (ap length (sym e), b ∙ ap (fit 0 256) (sym e)))
 
   pub all_listed : (s : List ℕ) {t qs : List ℕ} {r : ℕ} → (k ≡ 0) → gathered t r qs ≡ take_all (fields_of im) (gathered s 0 ps)
@@ -211,5 +211,5 @@ module _ (im : List ℕ) (extent k : ℕ) (q : k ≡ refusal_of im extent) (ps :
       let w = (accepted_exactly_when_well_formed im extent).0 z in
       let few : length (field_places im) ≤ 256 = omega (arith, rw (fields_are im extent w) at w.few_fields, length-map (fields_of im) (λ (f : Field). f.image.0)) in
       let l = list_taken (fields_of im) s ps 256 b e few in
-      let i : (if refusal_of im extent =? 0 then field_places im else []) ≡ field_places im = if_eq _ 0 _ _ z in
+      let i : (when refusal_of im extent =? 0 then field_places im else []) ≡ field_places im = if_eq _ 0 _ _ z in
       (sym z, (l.0 ∙ ap length (sym i), l.1 ∙ ap (fit 0 256) (sym i)))

@@ -7,7 +7,7 @@ use native.Mathlib.Omega.{arith}
 use native.Mathlib.Decide.{ℕ_discrete}
 use borrow.Author.Tests.{eqb-true}
 use Rattle.laws.specs.Bytes.{byte_at}
-use Rattle.laws.specs.Choice.{if◌then◌else◌, ◌and◌, ◌=?◌, ◌<?◌}
+use Rattle.laws.specs.Choice.{when◌then◌else◌, ◌and◌, ◌=?◌, ◌<?◌}
 use Rattle.laws.proofs.Cases.{if_ind, if_eq, if_ne}
 use Rattle.cmf.specs.Readers.{item_place, component_at}
 use Rattle.cmf.specs.Places.{is_in}
@@ -22,11 +22,11 @@ use Rattle.handset.specs.OptionText.{items_in, text_refusal, text_span, text_pla
 use Rattle.handset.specs.declared.option.TextPlace.{TextPlace}
 
 found_left : (p : ℕ) (qs bs : List ℕ) → is_in p qs ≡ true → is_in p (qs ++ bs) ≡ true
-unfolding is_in if◌then◌else◌
+unfolding is_in when◌then◌else◌
 found_left p [] bs h = absurd (true≢false (sym h))
 found_left p (q ∷ qs) bs h = go (q =? p) h (found_left p qs bs)
   where
-    go : (t : Bool) → (if t then true else is_in p qs) ≡ true → (is_in p qs ≡ true → is_in p (qs ++ bs) ≡ true) → (if t then true else is_in p (qs ++ bs)) ≡ true
+    go : (t : Bool) → (when t then true else is_in p qs) ≡ true → (is_in p qs ≡ true → is_in p (qs ++ bs) ≡ true) → (when t then true else is_in p (qs ++ bs)) ≡ true
     go true g next = refl
     go false g next = next g
 
@@ -36,12 +36,12 @@ found_last p [] q h = if_eq q p _ _ h
 found_last p (r ∷ qs) q h = if_ind (λ (t : Bool). t ≡ true) (r =? p) (λ _. refl) (λ _. found_last p qs q h)
 
 not_yet : (p : ℕ) (qs : List ℕ) (q : ℕ) → is_in p qs ≡ false → (q ≡ p → ⊥) → is_in p (qs ++ (q ∷ [])) ≡ false
-unfolding is_in if◌then◌else◌
+unfolding is_in when◌then◌else◌
 not_yet p [] q h n = if_ne q p _ _ n
 not_yet p (r ∷ qs) q h n = go (r =? p) h (λ g. not_yet p qs q g n)
   where
-    go : (t : Bool) → (if t then true else is_in p qs) ≡ false → (is_in p qs ≡ false → is_in p (qs ++ (q ∷ [])) ≡ false)
-        → (if t then true else is_in p (qs ++ (q ∷ []))) ≡ false
+    go : (t : Bool) → (when t then true else is_in p qs) ≡ false → (is_in p qs ≡ false → is_in p (qs ++ (q ∷ [])) ≡ false)
+        → (when t then true else is_in p (qs ++ (q ∷ []))) ≡ false
     go true g next = absurd (true≢false g)
     go false g next = next g
 

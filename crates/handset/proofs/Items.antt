@@ -7,7 +7,7 @@ use mathlib.Core.List.{List, [], ◌∷◌, map}
 use native.Mathlib.Omega.{arith}
 use lib.ListN.{length}
 use borrow.Author.Tests.{eqb-true, ltb-true, ltb-false}
-use Rattle.laws.specs.Choice.{if◌then◌else◌, ◌=?◌, ◌<?◌}
+use Rattle.laws.specs.Choice.{when◌then◌else◌, ◌=?◌, ◌<?◌}
 use Rattle.laws.specs.Bytes.{byte_at}
 use Rattle.laws.specs.Parts.{part_at}
 use Rattle.laws.proofs.Cases.{if_ind, by_test, if_lt, if_ge, and_l, and_r}
@@ -177,7 +177,7 @@ module _ (im : List ℕ) (extent place item k : ℕ) (q : k ≡ text_refusal im 
   pub not_placed : (k ≡ 0 → ⊥) → text_span k 0 0 ≡ text_place im extent place item
   not_placed h = rw q (sym (place_none im extent place item (rw q at h)))
 
-  module _ (z : k ≡ 0) (p : ℕ) (e : p ≡ (if place <? length im then item_place im place item else 0)) where
+  module _ (z : k ≡ 0) (p : ℕ) (e : p ≡ (when place <? length im then item_place im place item else 0)) where
     found : p ≡ item_place im place item
     found =
         e ∙ if_lt place (length im) _ _ (omega (arith, item_inside im extent place item (sym q ∙ z), from_on im item (place + 10)))

@@ -5,7 +5,7 @@ use mathlib.Core.Bool.{Bool, true, false}
 use mathlib.Core.List.{List}
 use native.Mathlib.Omega.{arith}
 use borrow.Author.Tests.{eqb-true, eqb-false}
-use Rattle.laws.specs.Choice.{if◌then◌else◌, ◌=?◌}
+use Rattle.laws.specs.Choice.{when◌then◌else◌, ◌=?◌}
 use Rattle.laws.proofs.Cases.{by_test, if_true, if_false, if_eq, if_ne, if_ind}
 use Rattle.acceptance.specs.Check.{refusal_of}
 use Rattle.session.specs.Fits.{session_fits}
@@ -40,8 +40,8 @@ module _ (k r j : ℕ) (t : Bool) (e : k ≡ r) where
   not_refused h f = sym (rw (← e) (next_given k _ h ∙ holding j t f))
 
 -- a test first, as a choice
-pub tested_before : (k : ℕ) (t : Bool) (b : ℕ) → (k ≡ 0 → ⊥) → (k unless t) before b ≡ (if t then b else k)
-unfolding ◌before◌ ◌unless◌ if◌then◌else◌
+pub tested_before : (k : ℕ) (t : Bool) (b : ℕ) → (k ≡ 0 → ⊥) → (k unless t) before b ≡ (when t then b else k)
+unfolding ◌before◌ ◌unless◌ when◌then◌else◌
 tested_before k true b h = refl
 tested_before k false b h = if_ne k 0 b k h
 
@@ -59,7 +59,7 @@ none_before a b =
     if_ind (λ (k : ℕ). k ≡ 0 → (a ≡ 0) × (b ≡ 0)) (a =? 0) (λ e z. (eqb-true a 0 e, z)) (λ e z. absurd (eqb-false a 0 e z))
 
 pub none_unless : (k : ℕ) (t : Bool) → (k ≡ 0 → ⊥) → k unless t ≡ 0 → t ≡ true
-unfolding ◌unless◌ if◌then◌else◌
+unfolding ◌unless◌ when◌then◌else◌
 none_unless k true h z = refl
 none_unless k false h z = absurd (h z)
 

@@ -1,6 +1,6 @@
 -- 01, The four calls: Draw. It does not write the sheet.
 use Rattle.std.specs.Prelude.{ℕ, ◌*◌, List, [], length}
-use Rattle.laws.specs.Choice.{if◌then◌else◌, ◌=?◌}
+use Rattle.laws.specs.Choice.{when◌then◌else◌, ◌=?◌}
 use Rattle.session.specs.declared.session.Session.{Session}
 use Rattle.picture.specs.Rows.{picture_of}
 use Rattle.picture.specs.Cursor.{edit_cursor}
@@ -12,9 +12,9 @@ draw_refusal im extent s n = session_refusal im extent s before (1 unless (n =? 
 
 -- the row and the column of the edit cursor, or none; none where it is refused
 unfoldable pub draw_cursor : List ℕ → ℕ → Session → ℕ → List ℕ
-draw_cursor im extent s n = if draw_refusal im extent s n =? 0 then edit_cursor im s else []
+draw_cursor im extent s n = when draw_refusal im extent s n =? 0 then edit_cursor im s else []
 
 -- the picture after Draw: a refused Draw alters no byte
 unfoldable pub drawn_picture : List ℕ → List ℕ → Session → List ℕ → List ℕ
 drawn_picture im sheet s picture =
-    if draw_refusal im (length sheet) s (length picture) =? 0 then picture_of im sheet s else picture
+    when draw_refusal im (length sheet) s (length picture) =? 0 then picture_of im sheet s else picture

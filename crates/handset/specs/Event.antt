@@ -1,6 +1,6 @@
 -- 01, The four calls: Event. A session comes in, and the next one goes out with an answer.
 use Rattle.std.specs.Prelude.{ℕ, List, length}
-use Rattle.laws.specs.Choice.{if◌then◌else◌, ◌=?◌, ◌≤?◌}
+use Rattle.laws.specs.Choice.{when◌then◌else◌, ◌=?◌, ◌≤?◌}
 use Rattle.session.specs.Events.{second}
 use Rattle.session.specs.Answers.{answer_number}
 use Rattle.session.specs.Step.{step_of, sheet_of}
@@ -20,7 +20,7 @@ refused_with s k = record { session = s; answer = answer.Refused k }
 -- the session and the answer: what the step of the session's mode gives
 unfoldable pub event_step : List ℕ → List ℕ → Session → ℕ → Stepped
 event_step im sheet s e =
-    if event_refusal im (length sheet) s e =? 0 then step_of im sheet s e
+    when event_refusal im (length sheet) s e =? 0 then step_of im sheet s e
     else refused_with s (event_refusal im (length sheet) s e)
 
 -- the answer by its number and values
@@ -29,4 +29,4 @@ event_answer im sheet s e = answer_number (event_step im sheet s e).answer
 
 -- the sheet after Event: a refused Event alters no byte
 unfoldable pub event_sheet : List ℕ → List ℕ → Session → ℕ → List ℕ
-event_sheet im sheet s e = if event_refusal im (length sheet) s e =? 0 then sheet_of im sheet s e else sheet
+event_sheet im sheet s e = when event_refusal im (length sheet) s e =? 0 then sheet_of im sheet s e else sheet

@@ -1,6 +1,6 @@
 -- 01, The four calls: Open.
 use Rattle.std.specs.Prelude.{ℕ, List, [], ◌∷◌, length}
-use Rattle.laws.specs.Choice.{if◌then◌else◌, ◌=?◌}
+use Rattle.laws.specs.Choice.{when◌then◌else◌, ◌=?◌}
 use Rattle.field.specs.Sheet.{default_written}
 use Rattle.field.specs.declared.record.Field.{Field}
 use Rattle.cmf.specs.Places.{fields_of}
@@ -18,7 +18,7 @@ open_refusal im extent columns lines = (1 unless shape_fits columns lines) befor
 unfoldable pub open_answer : List ℕ → ℕ → ℕ → ℕ → Opened
 open_answer im extent columns lines = record {
   refusal = open_refusal im extent columns lines;
-  session = if open_refusal im extent columns lines =? 0 then opened columns lines else closed;
+  session = when open_refusal im extent columns lines =? 0 then opened columns lines else closed;
 }
 
 -- the defaults of fields written, one after another, and no other byte
@@ -29,4 +29,4 @@ defaults_written (f ∷ fs) s = defaults_written fs (default_written f s)
 -- the sheet after Open: the default of each field of the image is written; a refused Open alters no byte
 unfoldable pub open_sheet : List ℕ → List ℕ → ℕ → ℕ → List ℕ
 open_sheet im s columns lines =
-    if open_refusal im (length s) columns lines =? 0 then defaults_written (fields_of im) s else s
+    when open_refusal im (length s) columns lines =? 0 then defaults_written (fields_of im) s else s

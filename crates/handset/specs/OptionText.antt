@@ -1,6 +1,6 @@
 -- 01, The four calls: the option text. It takes image and sheet and no session.
 use Rattle.std.specs.Prelude.{ℕ, ◌+◌, ◌≤◌, ◌≡◌, List, length}
-use Rattle.laws.specs.Choice.{if◌then◌else◌, ◌and◌, ◌=?◌, ◌<?◌}
+use Rattle.laws.specs.Choice.{when◌then◌else◌, ◌and◌, ◌=?◌, ◌<?◌}
 use Rattle.laws.specs.Bytes.{byte_at}
 use Rattle.laws.specs.Parts.{part_at}
 use Rattle.field.specs.declared.kind.Kind.{Kind}
@@ -36,7 +36,7 @@ text_span k start n = record { refusal = k; start = record { 0 = start }; length
 -- nor length
 unfoldable pub text_place : List ℕ → ℕ → ℕ → ℕ → TextPlace
 text_place im extent place item =
-    if text_refusal im extent place item =? 0
+    when text_refusal im extent place item =? 0
     then text_span 0 (item_place im place item + 1) (byte_at im (item_place im place item))
     else text_span (text_refusal im extent place item) 0 0
 

@@ -1,6 +1,6 @@
 -- Refusals in their order: the first that is given decides (01, Refusal numbers).
 use Rattle.std.specs.Prelude.{ℕ, Bool, List}
-use Rattle.laws.specs.Choice.{if◌then◌else◌, ◌=?◌}
+use Rattle.laws.specs.Choice.{when◌then◌else◌, ◌=?◌}
 use Rattle.acceptance.specs.Check.{refusal_of}
 use Rattle.session.specs.Fits.{session_fits}
 use Rattle.session.specs.declared.session.Session.{Session}
@@ -9,11 +9,11 @@ infixr 20 ◌before◌
 infix 22 ◌unless◌
 -- a refusal number, or the next one where there is none; 0 is none
 unfoldable pub ◌before◌ : ℕ → ℕ → ℕ
-a before b = if a =? 0 then b else a
+a before b = when a =? 0 then b else a
 
 -- a refusal number where something does not hold
 unfoldable pub ◌unless◌ : ℕ → Bool → ℕ
-k unless t = if t then 0 else k
+k unless t = when t then 0 else k
 
 -- 01, Refusal numbers: a call that takes a session checks 2 to 11, then 12
 unfoldable pub session_refusal : List ℕ → ℕ → Session → ℕ

@@ -1,7 +1,7 @@
 -- Nobody has to believe this file: what the walk over an image's fields hands on. Open's contract equates the
 -- sheet with `Open.open_sheet`, and that of `list_fields` the whole list with the fields' places.
 use Rattle.std.specs.Prelude.{ℕ, ◌+◌, List, [], ◌∷◌, length, set}
-use Rattle.laws.specs.Choice.{if◌then◌else◌, ◌<?◌}
+use Rattle.laws.specs.Choice.{when◌then◌else◌, ◌<?◌}
 use Rattle.field.specs.Sheet.{default_written}
 use Rattle.field.specs.declared.record.Field.{Field}
 
@@ -17,8 +17,8 @@ gathered s k ps = record { sheet = s; count = k; places = ps }
 -- a field: its default is written, and its place is the list's next, as long as there is room
 unfoldable pub take_one : Field → Gathered → Gathered
 take_one f t = gathered (default_written f t.sheet)
-    (if t.count <? length t.places then t.count + 1 else t.count)
-    (if t.count <? length t.places then set t.places t.count f.image.0 else t.places)
+    (when t.count <? length t.places then t.count + 1 else t.count)
+    (when t.count <? length t.places then set t.places t.count f.image.0 else t.places)
 
 -- fields one after another
 unfoldable pub take_all : List Field → Gathered → Gathered

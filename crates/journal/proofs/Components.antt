@@ -9,7 +9,7 @@ use mathlib.Core.List.{List, [], ◌∷◌, Memᴰ}
 use native.Mathlib.Omega.{arith}
 use lib.ListN.{length}
 use borrow.Author.Tests.{eqb-true, eqb-false}
-use Rattle.laws.specs.Choice.{if◌then◌else◌, ◌=?◌, ◌<?◌}
+use Rattle.laws.specs.Choice.{when◌then◌else◌, ◌=?◌, ◌<?◌}
 use Rattle.laws.specs.Bytes.{byte_at, room}
 use Rattle.laws.proofs.Cases.{if_ind, if_false, by_test}
 use Rattle.field.specs.declared.kind.ImagePlace.{ImagePlace}
@@ -48,11 +48,11 @@ module _ (im : List ℕ) (c : ℕ) where
   Holding x = x.editable ≡ true → x.fielded ≡ true
 
   string_fixed : (tag : ℕ) (t : Run) → given im c 0x15 (tag_bit 32 tag) t ≡ true → tag_bit 32 tag ≡ 0
-  unfolding given if◌then◌else◌
+  unfolding given when◌then◌else◌
   string_fixed tag t g = eqb-true (tag_bit 32 tag) 0 g
 
   read_holds : (code tag end : ℕ) (t : Run) → given im c code (tag_bit 32 tag) t ≡ true → Holding (component_read im c code tag end)
-  unfolding if◌then◌else◌
+  unfolding when◌then◌else◌
   read_holds code tag end t g e =
       by_test (code =? 0x15)
       (λ q. let z = string_fixed tag t (rw (eqb-true code 0x15 q) at g) in absurd (false≢true (rw (eqb-true code 0x15 q, z) at e)))

@@ -8,7 +8,7 @@ use mathlib.Core.List.{List, Memᴰ}
 use native.Mathlib.Omega.{arith}
 use lib.ListN.{length}
 use borrow.Author.Tests.{eqb-true, eqb-false, ltb-true, ne_eqb}
-use Rattle.laws.specs.Choice.{if◌then◌else◌, ◌=?◌, ◌≤?◌}
+use Rattle.laws.specs.Choice.{when◌then◌else◌, ◌=?◌, ◌≤?◌}
 use Rattle.laws.proofs.Cases.{if_ind, if_true, if_false, by_test, and_l, and_r}
 use Rattle.field.specs.Profiles.{profile_of}
 use Rattle.field.specs.Values.{bytes_of}
@@ -86,7 +86,7 @@ pressed_says k w e =
 
 -- 01's count of ENTERs is one more than the parts of the visit
 opener_parts : (k : Kind) → opener_of k ≡ suc (parts_in (profile_of k))
-unfolding opener_of parts_in profile_of if◌then◌else◌
+unfolding opener_of parts_in profile_of when◌then◌else◌
 opener_parts (Integer f) = refl
 opener_parts (Counter s) = refl
 opener_parts (Time true) = refl
@@ -111,7 +111,7 @@ module _ (im : List ℕ) where
   -- the open visit of a field; that of a trigger is none
   abbrev pub view_in : Work → Mode → View Work
   view_in w mode.Browsing = away
-  view_in w (mode.Visit p) = if fires p.0 then away else at p.0 w
+  view_in w (mode.Visit p) = when fires p.0 then away else at p.0 w
   view_in w (mode.Password n) = away
 
   abbrev pub view_of : Session → View Work
@@ -132,15 +132,15 @@ module _ (im : List ℕ) where
     right : Step (rules_of im) executor t e (sitting r.session sheet) r.answer
 
   by_if : {t : Sitting} {e : ℕ} {sheet : List ℕ} (b : Bool) {x y : Stepped} → (b ≡ true → Right t e x sheet) → (b ≡ false → Right t e y sheet)
-      → Right t e (if b then x else y) sheet
+      → Right t e (when b then x else y) sheet
   by_if {t} {e} {sheet} b f g = if_ind (λ (r : Stepped). Right t e r sheet) b f g
 
   view_visit : (w : Work) (p : ImagePlace) → fires p.0 ≡ false → view_in w (mode.Visit p) ≡ at p.0 w
-  unfolding if◌then◌else◌
+  unfolding when◌then◌else◌
   view_visit w p f = rw f
 
   view_trigger : (w : Work) (p : ImagePlace) → fires p.0 ≡ true → view_in w (mode.Visit p) ≡ away
-  unfolding if◌then◌else◌
+  unfolding when◌then◌else◌
   view_trigger w p f = rw f
 
   -- a visit that is opened has just begun
@@ -174,14 +174,14 @@ module _ (im : List ℕ) where
 
     -- an ENTER that did not flash counts, and nothing else does
     counts_enter : (a : Answer) → is_flash a ≡ false → e =? enter ≡ true → counts (answered e a) ≡ true
-    unfolding if◌then◌else◌
+    unfolding when◌then◌else◌
     counts_enter a f h = rw (h, f)
 
     counts_other : (a : Answer) → e =? enter ≡ false → counts (answered e a) ≡ false
     counts_other a h = if_false _ _ h
 
     counts_flash : counts (answered e answer.Flash) ≡ false
-    unfolding if◌then◌else◌
+    unfolding when◌then◌else◌
     counts_flash = by_test (e =? enter) (λ h. rw h) (λ h. rw h)
 
     -- ---- browsing

@@ -6,7 +6,7 @@ use mathlib.Core.Logic.{◌≢◌}
 use mathlib.Core.Bool.{true, false, true≢false}
 use mathlib.Core.List.{List, [], ◌∷◌, ◌++◌, reverse, reverse_aux, reverse-cons}
 use borrow.Author.Tests.{eqb-true, eqb-false}
-use Rattle.laws.specs.Choice.{if◌then◌else◌, ◌=?◌}
+use Rattle.laws.specs.Choice.{when◌then◌else◌, ◌=?◌}
 use Rattle.laws.proofs.Cases.{by_test, if_false}
 use Rattle.session.specs.Events.{enter}
 use Rattle.session.specs.declared.answer.Answer.{Answer}
@@ -16,7 +16,7 @@ use Rattle.journal.proofs.Steps.{View, away, at, System, is_finished, log, final
 
 -- a function that is `a` at p, and f elsewhere, is f updated
 updated : {A : Type 0} (f g : ℕ → A) (p : ℕ) (a : A) (q : ℕ) → g p ≡ a → (q ≢ p → g q ≡ f q) → g q ≡ update f p a q
-unfolding if◌then◌else◌
+unfolding when◌then◌else◌
 updated f g p a q h k = by_test (q =? p) (λ e. rw e (ap g (eqb-true q p e) ∙ h)) (λ e. rw e (k (eqb-false q p e)))
 
 module _ {W : Type 0} (R : Rules W) where
@@ -28,16 +28,16 @@ module _ {W : Type 0} (R : Rules W) where
   settled_plain (answer.Refused n) j h = refl
 
   fed_skip : (j : Journal) (x : Answered) → ignored x ≡ true → fed R j x ≡ j
-  unfolding if◌then◌else◌
+  unfolding when◌then◌else◌
   fed_skip j x i = rw i
 
   fed_plain : (j : Journal) (x : Answered) → ignored x ≡ false → is_finished x.answer ≡ false → fed R j x ≡ noted x j
-  unfolding if◌then◌else◌
+  unfolding when◌then◌else◌
   fed_plain j x i h = rw i (settled_plain x.answer (noted x j) h)
 
   fed_finished : (j : Journal) (x : Answered) (p : ℕ) → ignored x ≡ false → x.answer ≡ answer.Finished (record { 0 = p })
       → fed R j x ≡ with_visit R p (finished_keys R p (noted x j)) (noted x j)
-  unfolding if◌then◌else◌
+  unfolding when◌then◌else◌
   fed_finished j x p i h = rw (i, h)
 
   -- the same keys, newest first
@@ -57,21 +57,21 @@ module _ {W : Type 0} (R : Rules W) where
     leads : retraced p (on (R.start p (j.bytes p))) (keys_of (after (suc n) j.trace)) ≡ on w
 
   leads_start : (p : ℕ) (x : Answered) (j : Journal) → counts x ≡ true → Leads p (R.start p (j.bytes p)) 0 (noted x j)
-  unfolding if◌then◌else◌
+  unfolding when◌then◌else◌
   leads_start p x j m = record { leads = rw m }
 
   leads_on : {p n : ℕ} {j : Journal} {w w' : W} {x : Answered} → Leads p w n j → counts x ≡ false → R.press p w x.event ≡ on w' → Leads p w' n (noted x j)
-  unfolding if◌then◌else◌
+  unfolding when◌then◌else◌
   leads_on h m o = record { leads = rw (m, h.leads) o }
 
   leads_part : {p n : ℕ} {j : Journal} {w w' : W} {x : Answered} → Leads p w n j → counts x ≡ true → R.press p w x.event ≡ on w' → Leads p w' (suc n) (noted x j)
-  unfolding if◌then◌else◌
+  unfolding when◌then◌else◌
   leads_part h m o = record { leads = rw (m, h.leads) o }
 
   -- the ENTER that finishes the visit: the journal's bytes become those that it stores
   leads_end : {p n : ℕ} {j : Journal} {w : W} {v : List ℕ} (x : Answered) → Leads p w n j → counts x ≡ true → R.press p w x.event ≡ stored v → R.opener p ≡ suc (suc n)
       → visited R p (j.bytes p) (finished_keys R p (noted x j)) ≡ v
-  unfolding if◌then◌else◌
+  unfolding when◌then◌else◌
   leads_end {p} {j} x h m o c =
       ap (leaves R p (j.bytes p)) (presses_reverse p (on (R.start p (j.bytes p))) (keys_of (after (R.opener p) (x ∷ j.trace)))) ∙ rw (c, m, h.leads, o)
 
@@ -82,7 +82,7 @@ module _ {W : Type 0} (R : Rules W) where
   -- and the visit is finished: its last key is an ENTER that stores, and no key before it does
   leads_finish : {p n : ℕ} {j : Journal} {w : W} {v : List ℕ} (x : Answered) → Leads p w n j → counts x ≡ true → R.press p w x.event ≡ stored v → R.opener p ≡ suc (suc n)
       → Finishes R p (j.bytes p) (finished_keys R p (noted x j))
-  unfolding if◌then◌else◌
+  unfolding when◌then◌else◌
   leads_finish {p} {n} {j} {w} x h m o c = record {
     before = reverse (keys_of (after (suc n) j.trace));
     last = x.event;
@@ -153,7 +153,7 @@ module _ {W : Type 0} (R : Rules W) where
   visited_last p b (u ∷ vs) v = visited_last p (visited R p b u) vs v
 
   own_visit : (p : ℕ) (ks : List ℕ) (j : Journal) → Own j → Own (with_visit R p ks j)
-  unfolding if◌then◌else◌
+  unfolding when◌then◌else◌
   own_visit p ks j h q =
       by_test (q =? p)
       (λ e. rw e
@@ -170,7 +170,7 @@ module _ {W : Type 0} (R : Rules W) where
   own_settled (answer.Refused n) j h = h
 
   own_fed : (j : Journal) (x : Answered) → Own j → Own (fed R j x)
-  unfolding if◌then◌else◌
+  unfolding when◌then◌else◌
   own_fed j x h = by_test (ignored x) (λ e. rw e h) (λ e. rw e (own_settled x.answer (noted x j) h))
 
   own_all : (xs : List Answered) (j : Journal) → Own j → Own (all_fed R j xs)
@@ -192,7 +192,7 @@ module _ {W : Type 0} (R : Rules W) where
     finish : (q : ℕ) → AllFinish R q (R.default q) (j.visits q)
 
   finished_visit : (p : ℕ) (ks : List ℕ) (j : Journal) → Finished j → Finishes R p (j.bytes p) ks → Finished (with_visit R p ks j)
-  unfolding if◌then◌else◌
+  unfolding when◌then◌else◌
   finished_visit p ks j h f = record { own = own_visit p ks j h.own; finish = λ q. by_test (q =? p) (here q) (λ e. rw e (h.finish q)) }
     where
       here : (q : ℕ) → q =? p ≡ true → AllFinish R q (R.default q) ((with_visit R p ks j).visits q)

@@ -1,7 +1,7 @@
 -- 01, The book of visits: the journal of a sitting. It is fed the image, by its visit rules, and the events
 -- with the answers that they got; it sees nothing of a session.
 use Rattle.std.specs.Prelude.{ℕ, zero, suc, ◌≡◌, Bool, true, false, List, [], ◌∷◌, ◌++◌, reverse}
-use Rattle.laws.specs.Choice.{if◌then◌else◌, ◌=?◌}
+use Rattle.laws.specs.Choice.{when◌then◌else◌, ◌=?◌}
 use Rattle.session.specs.Events.{enter, second}
 use Rattle.session.specs.Answers.{is_flash, is_refused}
 use Rattle.session.specs.declared.answer.Answer.{Answer}
@@ -35,11 +35,11 @@ pub record Rules (W : Type 0) : Type 0 where
 
 -- an ENTER that did not flash
 abbrev pub counts : Answered → Bool
-counts x = if x.event =? enter then (if is_flash x.answer then false else true) else false
+counts x = when x.event =? enter then (when is_flash x.answer then false else true) else false
 
 -- 01: what is left out: seconds, and events that were refused
 abbrev pub ignored : Answered → Bool
-ignored x = if x.event =? second then true else is_refused x.answer
+ignored x = when x.event =? second then true else is_refused x.answer
 
 -- ---- the trace (01's tape), newest first
 
@@ -52,7 +52,7 @@ keep (suc n) x r = x ∷ r
 abbrev pub after : ℕ → List Answered → List Answered
 after zero t = []
 after (suc n) [] = []
-after (suc n) (x ∷ t) = if counts x then keep n x (after n t) else x ∷ after (suc n) t
+after (suc n) (x ∷ t) = when counts x then keep n x (after n t) else x ∷ after (suc n) t
 
 -- its keys
 abbrev pub keys_of : List Answered → List ℕ
@@ -114,7 +114,7 @@ pub record Journal : Type 0 where
 
 -- f with another value at p
 abbrev pub update : {A : Type 0} → (ℕ → A) → ℕ → A → ℕ → A
-update f p a q = if q =? p then a else f q
+update f p a q = when q =? p then a else f q
 
 -- an event goes on the trace, with its answer
 abbrev pub noted : Answered → Journal → Journal
@@ -143,7 +143,7 @@ module _ {W : Type 0} (R : Rules W) where
 
   -- one event more
   abbrev pub fed : Journal → Answered → Journal
-  fed j x = if ignored x then j else settled x.answer (noted x j)
+  fed j x = when ignored x then j else settled x.answer (noted x j)
 
   -- events one after another
   abbrev pub all_fed : Journal → List Answered → Journal

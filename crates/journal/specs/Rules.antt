@@ -2,7 +2,7 @@
 -- keys, at the field that is read at a place.
 use Rattle.std.specs.Prelude.{ℕ, ◌+◌, ◌≤◌, ◌≡◌, ◌⊎◌}
 use mathlib.Core.List.{List, Memᴰ}
-use Rattle.laws.specs.Choice.{if◌then◌else◌}
+use Rattle.laws.specs.Choice.{when◌then◌else◌}
 use Rattle.field.specs.Values.{bytes_of, value_of}
 use Rattle.field.specs.Cells.{started, finished}
 use Rattle.field.specs.Sheet.{size_of, own_bytes}
@@ -25,7 +25,7 @@ field_at im p = (component_at im p).field
 unfoldable pub opener_of : Kind → ℕ
 opener_of (Integer f) = 2
 opener_of (Counter s) = 2
-opener_of (Time long) = if long then 4 else 3
+opener_of (Time long) = when long then 4 else 3
 opener_of (Date long) = 4
 opener_of (Switch n) = 2
 opener_of (Option n w) = 2

@@ -9,7 +9,7 @@ use native.Mathlib.Decide.{dec_lt}
 use lib.ListN.{length, get_or, set, get_or-eq_default}
 use lib.Seq.{get_or-set_same, get_or-set_other, set_out, set-get_or}
 use lib.Dec.{lit≤}
-use Rattle.laws.specs.Choice.{if◌then◌else◌, ◌and◌}
+use Rattle.laws.specs.Choice.{when◌then◌else◌, ◌and◌}
 use Rattle.laws.proofs.Cases.{if_ind, if_false}
 use Rattle.field.specs.Calendar.{RealDate}
 use Rattle.field.specs.Profiles.{profile_of, end_of, cell_of, open_day, held_to}
@@ -64,7 +64,7 @@ pub date_enters : (long : Bool) (cs : List ℕ) → RangeCells (Date long) cs
     → (enter_key (Date long) (part cs 0) ≡ next_part (part cs 1))
     × (enter_key (Date long) (part cs 1) ≡ next_part (part cs 2))
     × (enter_key (Date long) (part cs 2) ≡ done (part cs 2))
-unfolding enter_key part_after capped profile_of stores ◌and◌ if◌then◌else◌
+unfolding enter_key part_after capped profile_of stores ◌and◌ when◌then◌else◌
 date_enters long cs h = (on 0 (lit≤ tt), on 1 (lit≤ tt), refl)
   where
     on : (i : ℕ) → i + 1 < 3 → next_part (capped (Date long) (part cs (i + 1))) ≡ next_part (part cs (i + 1))
@@ -92,7 +92,7 @@ set_least cs i x = go (dec_lt i (length cs))
         rw (set_out cs i (min (get_or cs i 0) x) o) (omega arith)
 
 pub month_entered : (long : Bool) (cs : List ℕ) → MonthEntered long cs (enter_key (Date long) (part cs 1))
-unfolding enter_key part_after capped profile_of cell_of ◌and◌ if◌then◌else◌
+unfolding enter_key part_after capped profile_of cell_of ◌and◌ when◌then◌else◌
 month_entered long cs = record {
   taken = refl;
   chosen = refl;

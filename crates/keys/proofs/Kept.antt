@@ -4,7 +4,7 @@ use mathlib.Core.Path.{◌≡◌}
 use mathlib.Core.Bool.{Bool, true, false}
 use native.Mathlib.Omega.{arith}
 use borrow.Author.Tests.{ltb-true, leb-true}
-use Rattle.laws.specs.Choice.{if◌then◌else◌, ◌<?◌, ◌≤?◌}
+use Rattle.laws.specs.Choice.{when◌then◌else◌, ◌<?◌, ◌≤?◌}
 use Rattle.laws.proofs.Cases.{if_ind, and_l, and_r}
 use Rattle.field.specs.Profiles.{profile_of, cell_of}
 use Rattle.keys.specs.Keys.{taken, next_part, with_chosen, choosing, chosen, raised, lowered, up_key, down_key, left_key, right_key, on_right, digit_key, part_after, capped, enter_key}
@@ -22,7 +22,7 @@ record Keeps (kind : Kind) (r : Pressed) : Type 0 where
   legal : Legal kind r.work
 
 -- a choice of results
-by_if : {kind : Kind} (t : Bool) {x y : Pressed} → (t ≡ true → Keeps kind x) → (t ≡ false → Keeps kind y) → Keeps kind (if t then x else y)
+by_if : {kind : Kind} (t : Bool) {x y : Pressed} → (t ≡ true → Keeps kind x) → (t ≡ false → Keeps kind y) → Keeps kind (when t then x else y)
 by_if {kind} t p q = if_ind (λ (r : Pressed). Keeps kind r) t p q
 
 module _ (kind : Kind) (w : Work) (h : Legal kind w) where

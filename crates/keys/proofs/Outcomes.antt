@@ -5,7 +5,7 @@ use mathlib.Core.Bool.{Bool, true, false}
 use native.Mathlib.Omega.{arith}
 use native.Mathlib.Numerals.{add-one}
 use borrow.Author.Tests.{ltb-false}
-use Rattle.laws.specs.Choice.{if◌then◌else◌, ◌and◌, ◌<?◌}
+use Rattle.laws.specs.Choice.{when◌then◌else◌, ◌and◌, ◌<?◌}
 use Rattle.laws.proofs.Cases.{if_ind, if_true, and_l}
 use Rattle.field.specs.Profiles.{profile_of, cell_of}
 use Rattle.field.specs.Cells.{stores, work_of, started}
@@ -23,11 +23,11 @@ use Rattle.keys.proofs.Parts.{moves_apart, typed_apart}
 
 -- parts that ENTER has passed: where it goes from part to part, the number of the chosen one
 unfoldable pub passed_in : Profile → Work → ℕ
-passed_in p w = if p.parts then w.at else 0
+passed_in p w = when p.parts then w.at else 0
 
 -- parts of a visit
 unfoldable pub parts_in : Profile → ℕ
-parts_in p = if p.parts then p.cells else 1
+parts_in p = when p.parts then p.cells else 1
 
 -- whether the key is ENTER, the kind, the working copy before and after, the outcome
 abbrev pub Facts : Bool → Kind → Work → Work → Outcome → Type 0
@@ -45,7 +45,7 @@ pub record Says (enter : Bool) (k : Kind) (w : Work) (r : Pressed) : Type 0 wher
 
 -- a choice of results
 by_if : {enter : Bool} {k : Kind} {w : Work} (t : Bool) {x y : Pressed}
-    → (t ≡ true → Says enter k w x) → (t ≡ false → Says enter k w y) → Says enter k w (if t then x else y)
+    → (t ≡ true → Says enter k w x) → (t ≡ false → Says enter k w y) → Says enter k w (when t then x else y)
 by_if {enter} {k} {w} t f g = if_ind (λ (r : Pressed). Says enter k w r) t f g
 
 -- ---- what each outcome says where it is given
@@ -62,7 +62,7 @@ module _ {k : Kind} {w : Work} where
 
   -- where there are no parts, none is passed
   says_moved : {v : Work} → (profile_of k).fires ≡ false → (profile_of k).parts ≡ false → Says false k w (taken v)
-  unfolding passed_in if◌then◌else◌
+  unfolding passed_in when◌then◌else◌
   says_moved f m = record { facts = (refl, f, simp m) }
 
   -- a cursor key on a trigger
@@ -75,15 +75,15 @@ module _ {k : Kind} {w : Work} where
 
   -- ENTER before the last part
   says_next : (profile_of k).fires ≡ false → part_after (profile_of k) w ≡ true → Says true k w (next_part (capped k (choosing w (w.at + 1))))
-  unfolding passed_in part_after capped if◌then◌else◌
+  unfolding passed_in part_after capped when◌then◌else◌
   says_next f m = let p = and_l _ _ m in record { facts = (refl, f, simp (p, add-one)) }
 
   -- the last ENTER
   says_done : (profile_of k).fires ≡ false → part_after (profile_of k) w ≡ false → stores k w.cells ≡ true → Says true k w (done w)
-  unfolding passed_in parts_in part_after ◌and◌ if◌then◌else◌
+  unfolding passed_in parts_in part_after ◌and◌ when◌then◌else◌
   says_done f m e = record { facts = (refl, f, refl, last (profile_of k).parts m, e) }
     where
-      last : (t : Bool) → t and ((w.at + 1) <? (profile_of k).cells) ≡ false → (if t then (profile_of k).cells else 1) ≤ suc (if t then w.at else 0)
+      last : (t : Bool) → t and ((w.at + 1) <? (profile_of k).cells) ≡ false → (when t then (profile_of k).cells else 1) ≤ suc (when t then w.at else 0)
       last true q = omega (arith, ltb-false (w.at + 1) (profile_of k).cells q)
       last false q = omega arith
 
@@ -139,10 +139,10 @@ passed_start k v d = if_ind (λ (x : ℕ). x ≡ 0) (profile_of k).parts (λ e. 
 
 -- a legal working copy has not passed all parts
 pub passed_below : (k : Kind) (w : Work) → Legal k w → passed_in (profile_of k) w < parts_in (profile_of k)
-unfolding passed_in parts_in if◌then◌else◌
+unfolding passed_in parts_in when◌then◌else◌
 passed_below k w h = go (profile_of k).parts
   where
-    go : (t : Bool) → (if t then w.at else 0) < (if t then (profile_of k).cells else 1)
+    go : (t : Bool) → (when t then w.at else 0) < (when t then (profile_of k).cells else 1)
     go true = h.at
     go false = omega arith
 

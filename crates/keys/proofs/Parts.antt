@@ -4,7 +4,7 @@ use mathlib.Core.Path.{◌≡◌, refl, sym, ◌∙◌}
 use mathlib.Core.Bool.{Bool, true, false}
 use mathlib.Core.List.{List}
 use borrow.Author.Tests.{ltb-true}
-use Rattle.laws.specs.Choice.{if◌then◌else◌}
+use Rattle.laws.specs.Choice.{when◌then◌else◌}
 use Rattle.laws.proofs.Cases.{if_ind, and_r}
 use Rattle.field.specs.Profiles.{profile_of, cell_of}
 use Rattle.keys.specs.Keys.{part_after}
@@ -31,7 +31,7 @@ moves_apart (Option n w) e = refl
 moves_apart Trigger e = refl
 
 -- a choice of cells that digit keys do not set
-if_typed : (t : Bool) (a b : Cell) → a.typed ≡ false → b.typed ≡ false → (if t then a else b).typed ≡ false
+if_typed : (t : Bool) (a b : Cell) → a.typed ≡ false → b.typed ≡ false → (when t then a else b).typed ≡ false
 if_typed t a b p q = if_ind (λ (c : Cell). c.typed ≡ false) t (λ e. p) (λ e. q)
 
 -- a kind with a cell that digit keys set has no parts, and is no trigger

@@ -4,7 +4,7 @@ use mathlib.Core.Path.{◌≡◌, refl}
 use mathlib.Core.Bool.{true, false}
 use mathlib.Core.List.{List, [], ◌∷◌, map}
 use lib.ListN.{length}
-use Rattle.laws.specs.Choice.{if◌then◌else◌, ◌and◌}
+use Rattle.laws.specs.Choice.{when◌then◌else◌, ◌and◌}
 use Rattle.laws.specs.Overwrite.{fit}
 use Rattle.laws.specs.Digits.{digits_of, number_from, low_first, from_low}
 use Rattle.field.specs.Formats.{format_of, signs_of, digits_in, base_of, limit_of, half_of, top_of, bits_in}
@@ -126,5 +126,5 @@ cases =
 
 -- every case comes out as listed
 pub worked : map runs cases ≡ map expected cases
-unfolding cases if◌then◌else◌ ◌and◌ fit digits_of number_from low_first from_low format_of signs_of digits_in base_of limit_of half_of top_of bits_in leap_year month_end full_year profile_of end_of cell_of number_of value_from spans distance sign_of in_digits shown_by minus storable of_digits cells_of stored_in in_span stores within all_within in_range work_of started finished raised lowered up_key down_key left_key right_key on_right digit_key part_after capped enter_key
+unfolding cases when◌then◌else◌ ◌and◌ fit digits_of number_from low_first from_low format_of signs_of digits_in base_of limit_of half_of top_of bits_in leap_year month_end full_year profile_of end_of cell_of number_of value_from spans distance sign_of in_digits shown_by minus storable of_digits cells_of stored_in in_span stores within all_within in_range work_of started finished raised lowered up_key down_key left_key right_key on_right digit_key part_after capped enter_key
 worked = refl

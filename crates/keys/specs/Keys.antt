@@ -1,7 +1,7 @@
 -- 01, Keys, a visit: what each key makes of the working copy. Keys go by the rows of the tables; only ENTER
 -- asks the kind, for the row of the part that it goes to and whether it can store.
 use Rattle.std.specs.Prelude.{ℕ, ◌+◌, ◌-◌, min, Bool, get_or, set}
-use Rattle.laws.specs.Choice.{if◌then◌else◌, ◌and◌, ◌<?◌, ◌≤?◌}
+use Rattle.laws.specs.Choice.{when◌then◌else◌, ◌and◌, ◌<?◌, ◌≤?◌}
 use Rattle.field.specs.Profiles.{profile_of, cell_of}
 use Rattle.field.specs.Cells.{stores}
 use Rattle.field.specs.declared.kind.Kind.{Kind}
@@ -46,48 +46,48 @@ choosing w i = record { cells = w.cells; at = i }
 -- it would leave its range
 unfoldable pub raised : Cell → Work → Pressed
 raised c w =
-    if c.sets then taken (with_chosen w c.high)
-    else if (chosen w + c.step) ≤? c.high then taken (with_chosen w (chosen w + c.step))
+    when c.sets then taken (with_chosen w c.high)
+    else when (chosen w + c.step) ≤? c.high then taken (with_chosen w (chosen w + c.step))
     else flash w
 
 -- a step down
 unfoldable pub lowered : Cell → Work → Pressed
 lowered c w =
-    if c.sets then taken (with_chosen w c.low)
-    else if (c.low + c.step) ≤? chosen w then taken (with_chosen w (chosen w - c.step))
+    when c.sets then taken (with_chosen w c.low)
+    else when (c.low + c.step) ≤? chosen w then taken (with_chosen w (chosen w - c.step))
     else flash w
 
 -- UP and DOWN step a digit, a part or a counter, or set a sign or bit; an option they do not step; any cursor
 -- key fires a trigger
 unfoldable pub up_key : Profile → Cell → Work → Pressed
-up_key p c w = if p.fires then fired w else if p.slides then flash w else raised c w
+up_key p c w = when p.fires then fired w else when p.slides then flash w else raised c w
 
 unfoldable pub down_key : Profile → Cell → Work → Pressed
-down_key p c w = if p.fires then fired w else if p.slides then flash w else lowered c w
+down_key p c w = when p.fires then fired w else when p.slides then flash w else lowered c w
 
 -- LEFT and RIGHT move between the cells of an integer or switch, step an option, and flash past an end
 unfoldable pub left_key : Profile → Cell → Work → Pressed
 left_key p c w =
-    if p.fires then fired w
-    else if p.moves then (if 0 <? w.at then taken (choosing w (w.at - 1)) else flash w)
-    else if p.slides then lowered c w
+    when p.fires then fired w
+    else when p.moves then (when 0 <? w.at then taken (choosing w (w.at - 1)) else flash w)
+    else when p.slides then lowered c w
     else flash w
 
 unfoldable pub right_key : Profile → Cell → Work → Pressed
 right_key p c w =
-    if p.fires then fired w
-    else if p.moves then (if (w.at + 1) <? p.cells then taken (choosing w (w.at + 1)) else flash w)
-    else if p.slides then raised c w
+    when p.fires then fired w
+    else when p.moves then (when (w.at + 1) <? p.cells then taken (choosing w (w.at + 1)) else flash w)
+    else when p.slides then raised c w
     else flash w
 
 -- the cell on the right, or the last
 unfoldable pub on_right : Profile → Work → ℕ
-on_right p w = if (w.at + 1) <? p.cells then w.at + 1 else w.at
+on_right p w = when (w.at + 1) <? p.cells then w.at + 1 else w.at
 
 -- a digit key, 0 to 9, sets a digit cell and moves right, staying at the last; anywhere else it flashes
 unfoldable pub digit_key : Profile → Cell → Work → ℕ → Pressed
 digit_key p c w d =
-    if c.typed then taken (choosing (with_chosen w d) (on_right p w))
+    when c.typed then taken (choosing (with_chosen w d) (on_right p w))
     else flash w
 
 -- a time or date with a part after the chosen one
@@ -103,7 +103,7 @@ capped k w = with_chosen w (min (chosen w) (cell_of k w.cells w.at).high)
 -- if what is shown can be stored
 unfoldable pub enter_key : Kind → Work → Pressed
 enter_key k w =
-    if (profile_of k).fires then passed_by w
-    else if part_after (profile_of k) w then next_part (capped k (choosing w (w.at + 1)))
-    else if stores k w.cells then done w
+    when (profile_of k).fires then passed_by w
+    else when part_after (profile_of k) w then next_part (capped k (choosing w (w.at + 1)))
+    else when stores k w.cells then done w
     else flash w

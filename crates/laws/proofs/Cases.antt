@@ -4,11 +4,11 @@ use mathlib.Core.Path.{◌≡◌, refl, sym, ◌∙◌}
 use mathlib.Core.Bool.{Bool, true, false, false≢true}
 use native.Mathlib.Omega.{arith}
 use borrow.Author.Tests.{eq-eqb, ne_eqb, lt-ltb, le-ltb, le-leb, lt-leb}
-use Rattle.laws.specs.Choice.{if◌then◌else◌, ◌and◌, ◌=?◌, ◌<?◌, ◌≤?◌}
+use Rattle.laws.specs.Choice.{when◌then◌else◌, ◌and◌, ◌=?◌, ◌<?◌, ◌≤?◌}
 
 -- a property of a choice: of the first where the test passes, of the second where it fails
-pub if_ind : {A : Type 0} (P : A → Type 0) (t : Bool) {x y : A} → (t ≡ true → P x) → (t ≡ false → P y) → P (if t then x else y)
-unfolding if◌then◌else◌
+pub if_ind : {A : Type 0} (P : A → Type 0) (t : Bool) {x y : A} → (t ≡ true → P x) → (t ≡ false → P y) → P (when t then x else y)
+unfolding when◌then◌else◌
 if_ind P true f g = f refl
 if_ind P false f g = g refl
 
@@ -29,30 +29,30 @@ le_via e h = omega arith
 
 -- a choice whose test is settled
 module _ {A : Type 0} where
-  pub if_true : {t : Bool} (x y : A) → t ≡ true → (if t then x else y) ≡ x
-  unfolding if◌then◌else◌
+  pub if_true : {t : Bool} (x y : A) → t ≡ true → (when t then x else y) ≡ x
+  unfolding when◌then◌else◌
   if_true x y h = rw h
 
-  pub if_false : {t : Bool} (x y : A) → t ≡ false → (if t then x else y) ≡ y
-  unfolding if◌then◌else◌
+  pub if_false : {t : Bool} (x y : A) → t ≡ false → (when t then x else y) ≡ y
+  unfolding when◌then◌else◌
   if_false x y h = rw h
 
-  pub if_eq : (a b : ℕ) (x y : A) → a ≡ b → (if a =? b then x else y) ≡ x
+  pub if_eq : (a b : ℕ) (x y : A) → a ≡ b → (when a =? b then x else y) ≡ x
   if_eq a b x y h = if_true x y (eq-eqb a b h)
 
-  pub if_ne : (a b : ℕ) (x y : A) → (a ≡ b → ⊥) → (if a =? b then x else y) ≡ y
+  pub if_ne : (a b : ℕ) (x y : A) → (a ≡ b → ⊥) → (when a =? b then x else y) ≡ y
   if_ne a b x y h = if_false x y (ne_eqb a b h)
 
-  pub if_lt : (a b : ℕ) (x y : A) → a < b → (if a <? b then x else y) ≡ x
+  pub if_lt : (a b : ℕ) (x y : A) → a < b → (when a <? b then x else y) ≡ x
   if_lt a b x y h = if_true x y (lt-ltb a b h)
 
-  pub if_ge : (a b : ℕ) (x y : A) → b ≤ a → (if a <? b then x else y) ≡ y
+  pub if_ge : (a b : ℕ) (x y : A) → b ≤ a → (when a <? b then x else y) ≡ y
   if_ge a b x y h = if_false x y (le-ltb a b h)
 
-  pub if_le : (a b : ℕ) (x y : A) → a ≤ b → (if a ≤? b then x else y) ≡ x
+  pub if_le : (a b : ℕ) (x y : A) → a ≤ b → (when a ≤? b then x else y) ≡ x
   if_le a b x y h = if_true x y (le-leb a b h)
 
-  pub if_gt : (a b : ℕ) (x y : A) → b < a → (if a ≤? b then x else y) ≡ y
+  pub if_gt : (a b : ℕ) (x y : A) → b < a → (when a ≤? b then x else y) ≡ y
   if_gt a b x y h = if_false x y (lt-leb a b h)
 
 -- a conjunction, and its parts
@@ -92,12 +92,12 @@ pub ruleset tests = (lt-ltb, le-ltb, le-leb, lt-leb, eq-eqb, ne_eqb)
 pub ruleset choices = (if_eq, if_ne, if_lt, if_ge, if_le, if_gt, if_true, if_false, and_true, and_false, tests, via, lt_via, le_via)
 
 -- a number chosen by a test is between what bounds both
-pub if_max : (t : Bool) {x y m : ℕ} → x ≤ m → y ≤ m → (if t then x else y) ≤ m
-unfolding if◌then◌else◌
+pub if_max : (t : Bool) {x y m : ℕ} → x ≤ m → y ≤ m → (when t then x else y) ≤ m
+unfolding when◌then◌else◌
 if_max true p q = p
 if_max false p q = q
 
-pub if_min : (t : Bool) {x y m : ℕ} → m ≤ x → m ≤ y → m ≤ (if t then x else y)
-unfolding if◌then◌else◌
+pub if_min : (t : Bool) {x y m : ℕ} → m ≤ x → m ≤ y → m ≤ (when t then x else y)
+unfolding when◌then◌else◌
 if_min true p q = p
 if_min false p q = q

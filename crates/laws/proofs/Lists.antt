@@ -7,7 +7,7 @@ use native.Mathlib.Nat.{zero-add, suc-add, le_of_suc-le-suc, not-suc-le-zero}
 use lib.ListN.{length, take, drop, get_or, length-take, length-drop, drop_of_length-le, get_or-eq_default, get_or-append}
 use lib.Seq.{take-nil, drop-nil, take-take, drop-drop, take_all, get_or-take, get_or-drop}
 use borrow.Author.Tests.{ltb-true, ltb-false}
-use Rattle.laws.specs.Choice.{if◌then◌else◌, ◌<?◌}
+use Rattle.laws.specs.Choice.{when◌then◌else◌, ◌<?◌}
 use Rattle.laws.specs.Bytes.{byte_at, word_at}
 use Rattle.laws.specs.Parts.{part_at}
 use Rattle.laws.proofs.Cases.{by_test, if_lt, if_ge}
@@ -45,7 +45,7 @@ part_after_lem at n e l m h q =
     rw (← s, ← drop-drop (at - e) e l, ← drop-drop (at - e) e m, q)
 
 -- an element of a part: 0 past its end
-pub part_at_lem : (at n i : ℕ) (s : List ℕ) → get_or (part_at at n s) i 0 ≡ (if i <? n then get_or s (at + i) 0 else 0)
+pub part_at_lem : (at n i : ℕ) (s : List ℕ) → get_or (part_at at n s) i 0 ≡ (when i <? n then get_or s (at + i) 0 else 0)
 part_at_lem at n i s =
     by_test (i <? n)
     (λ e. let h = ltb-true i n e in rw (get_or-take n (drop at s) i 0 h, get_or-drop, if_lt i n (get_or s (at + i) 0) 0 h))

@@ -8,7 +8,7 @@ use native.Mathlib.Omega.{arith}
 use lib.ListN.{length, take, drop, set, get_or, length-append, length-drop, length-reverse}
 use lib.Seq.{take-suc, take_all, get_or-drop, length-take-le}
 use borrow.Author.Tests.{ltb-true, ltb-false}
-use Rattle.laws.specs.Choice.{if◌then◌else◌, ◌<?◌}
+use Rattle.laws.specs.Choice.{when◌then◌else◌, ◌<?◌}
 use Rattle.laws.specs.Overwrite.{over}
 use Rattle.laws.specs.Digits.{digits_of, number_from, low_first, from_low}
 use Rattle.laws.proofs.Cases.{by_test, if_lt, if_ge}
@@ -129,7 +129,7 @@ turn_fits n b d i count h hb hi hc hd =
 
 -- ---- bytes, lowest first
 
-suc_test : (i n x y : ℕ) → (if i <? n then x else y) ≡ (if suc i <? suc n then x else y)
+suc_test : (i n x y : ℕ) → (when i <? n then x else y) ≡ (when suc i <? suc n then x else y)
 suc_test i n x y =
     by_test (i <? n)
     (λ e. let h = ltb-true i n e in rw (if_lt i n x y h) (sym (if_lt (suc i) (suc n) x y (omega arith))))
@@ -159,7 +159,7 @@ unfolding from_low
 low_below bs h = rw (← length-reverse bs) (omega (arith, number_below 256 0 (reverse bs) (below_reverse 256 bs h)))
 
 -- a byte of a number; those past its count are 0
-pub low_at : (n x i : ℕ) → get_or (low_first n x) i 0 ≡ (if i <? n then x / 256 ^ i % 256 else 0)
+pub low_at : (n x i : ℕ) → get_or (low_first n x) i 0 ≡ (when i <? n then x / 256 ^ i % 256 else 0)
 unfolding low_first digits_of
 low_at zero x i = sym (if_ge i 0 _ _ (omega arith))
 low_at (suc n) x zero = rw (low_suc n x, if_lt 0 (suc n) (x / 256 ^ 0 % 256) 0 (omega arith), pow-zero, div-one)

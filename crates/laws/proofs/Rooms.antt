@@ -4,7 +4,7 @@ use mathlib.Core.Path.{◌≡◌}
 use mathlib.Core.Bool.{Bool, true, false≢true}
 use native.Mathlib.Omega.{arith}
 use borrow.Author.Tests.{leb-true, le-leb}
-use Rattle.laws.specs.Choice.{if◌then◌else◌, ◌≤?◌}
+use Rattle.laws.specs.Choice.{when◌then◌else◌, ◌≤?◌}
 use Rattle.laws.specs.Bytes.{room}
 use Rattle.laws.proofs.Cases.{if_ind}
 
@@ -15,5 +15,5 @@ room_le len at n e =
     (λ h f. omega (arith, leb-true at len h, leb-true n (len - at) f)) (λ h f. absurd (false≢true f)) e
 
 pub le_room : (len at n : ℕ) → at + n ≤ len → room len at n ≡ true
-unfolding room if◌then◌else◌
+unfolding room when◌then◌else◌
 le_room len at n h = simp (le-leb at len (omega arith), le-leb n (len - at) (omega arith))

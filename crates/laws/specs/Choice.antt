@@ -1,15 +1,15 @@
 -- The one choice that every definition uses, and the tests that it is made by.
 use Rattle.std.specs.Prelude.{ℕ, Bool, true, false, eqb, ltb, leb}
 
-infixr 10 if◌then◌else◌
+infixr 10 when◌then◌else◌
 infixr 25 ◌and◌
 infix 30 ◌=?◌
 infix 30 ◌<?◌
 infix 30 ◌≤?◌
--- shut, so that laws can be found by the shape of a choice: `unfolding if◌then◌else◌` opens it
-unfoldable pub if◌then◌else◌ : {A : Type 0} → Bool → A → A → A
-if true then a else b = a
-if false then a else b = b
+-- shut, so that laws can be found by the shape of a choice: `unfolding when◌then◌else◌` opens it
+unfoldable pub when◌then◌else◌ : {A : Type 0} → Bool → A → A → A
+when true then a else b = a
+when false then a else b = b
 
 unfoldable pub ◌and◌ : Bool → Bool → Bool
 true and b = b

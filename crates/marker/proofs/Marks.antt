@@ -6,7 +6,7 @@ use mathlib.Core.List.{List, [], ◌∷◌}
 use native.Mathlib.Omega.{arith}
 use lib.ListN.{length, get_or, drop}
 use borrow.Author.Tests.{not-true, eqb-true, eqb-false, ltb-true, ltb-false, le-leb, lt-leb, leb-true}
-use Rattle.laws.specs.Choice.{if◌then◌else◌, ◌and◌, ◌=?◌, ◌<?◌, ◌≤?◌}
+use Rattle.laws.specs.Choice.{when◌then◌else◌, ◌and◌, ◌=?◌, ◌<?◌, ◌≤?◌}
 use Rattle.laws.specs.Bytes.{byte_at}
 use Rattle.laws.proofs.Cases.{if_ind, by_test, if_true, if_false, if_eq, if_ne, and_l, and_r, and_true, and_false}
 use Rattle.field.specs.declared.record.Field.{Field}
@@ -27,7 +27,7 @@ use Rattle.marker.proofs.Tables.{number_at, at_taken_out, open_less}
 
 -- the number of a place that came before, or is no field's, or has a default
 abbrev number : Bool → Bool → ℕ → ℕ
-number before found d = if before then 0 else (if found then d + 1 else 0)
+number before found d = when before then 0 else (when found then d + 1 else 0)
 
 fits_none : (q : Question) → fits_by 0 q ≡ false
 unfolding fits_by
@@ -48,7 +48,7 @@ fits_some d q =
 
 fits_same : (before found : Bool) (d : ℕ) (q : Question)
     → fits_by (number before found d) q ≡ found and (not before and ((q.right ≤? 255) and (not (q.right =? d) and (q.points ≤? 255))))
-unfolding if◌then◌else◌ ◌and◌
+unfolding when◌then◌else◌ ◌and◌
 fits_same true true d q = fits_none q
 fits_same true false d q = fits_none q
 fits_same false true d q = fits_some d q
@@ -59,7 +59,7 @@ fits_same false false d q = fits_none q
 module _ (fs : List Field) where
   -- after questions at earlier places
   pub record Knows (earlier t : List ℕ) : Type 0 where
-    pub at : (p : ℕ) → get_or t p 0 ≡ (if is_in p earlier then 0 else number_at p fs)
+    pub at : (p : ℕ) → get_or t p 0 ≡ (when is_in p earlier then 0 else number_at p fs)
 
   pub knows_first : (t : List ℕ) → ((p : ℕ) → get_or t p 0 ≡ number_at p fs) → Knows [] t
   unfolding is_in
@@ -71,8 +71,8 @@ module _ (fs : List Field) where
     at = λ x.
         at_taken_out p x t
         ∙ by_test (p =? x)
-        (λ e. if_true 0 (get_or t x 0) e ∙ sym (ap (λ (b : Bool). if b then 0 else number_at x fs) (if_true true (is_in x earlier) e) ∙ if_true 0 _ refl))
-        (λ e. if_false 0 (get_or t x 0) e ∙ k.at x ∙ sym (ap (λ (b : Bool). if b then 0 else number_at x fs) (if_false true (is_in x earlier) e)));
+        (λ e. if_true 0 (get_or t x 0) e ∙ sym (ap (λ (b : Bool). when b then 0 else number_at x fs) (if_true true (is_in x earlier) e) ∙ if_true 0 _ refl))
+        (λ e. if_false 0 (get_or t x 0) e ∙ k.at x ∙ sym (ap (λ (b : Bool). when b then 0 else number_at x fs) (if_false true (is_in x earlier) e)));
   }
 
   module _ (earlier t : List ℕ) (q : Question) (k : Knows earlier t) where
@@ -99,9 +99,9 @@ sums_same p q r = rw (p, q, r)
 -- points counted before and after
 added : (v : Verdict) (n : ℕ) (y : Tally) (a b c : ℕ)
     → ◌≡◌ {A = Marked} (marks.Sums ((counted v n y).right + a) ((counted v n y).wrong + b) ((counted v n y).blank + c))
-    (marks.Sums (y.right + ((if same verdict.Right v then n else 0) + a)) (y.wrong + ((if same verdict.Wrong v then n else 0) + b))
-    (y.blank + ((if same verdict.Blank v then n else 0) + c)))
-unfolding counted if◌then◌else◌
+    (marks.Sums (y.right + ((when same verdict.Right v then n else 0) + a)) (y.wrong + ((when same verdict.Wrong v then n else 0) + b))
+    (y.blank + ((when same verdict.Blank v then n else 0) + c)))
+unfolding counted when◌then◌else◌
 added verdict.Right n y a b c = sums_same (omega arith) (omega arith) (omega arith)
 added verdict.Wrong n y a b c = sums_same (omega arith) (omega arith) (omega arith)
 added verdict.Blank n y a b c = sums_same (omega arith) (omega arith) (omega arith)
@@ -126,7 +126,7 @@ module _ (fs : List Field) (sheet : List ℕ) where
   judged q earlier t k e = ap (λ (d : ℕ). verdict_of d q.right (byte_at sheet q.place.0)) (default_known fs earlier t q k e)
 
   pub marked_known : (qs : List Question) (earlier t : List ℕ) (y : Tally) → Knows fs earlier t
-      → marked_by t sheet qs y ≡ (if questions_fit fs earlier qs then summed qs y else marks.Refused 15)
+      → marked_by t sheet qs y ≡ (when questions_fit fs earlier qs then summed qs y else marks.Refused 15)
   unfolding marked_by questions_fit
   marked_known [] earlier t y k =
       sym (if_true _ _ refl ∙ summed_last y)
@@ -136,8 +136,8 @@ module _ (fs : List Field) (sheet : List ℕ) where
       ∙ ap (λ (v : Verdict). marked_by (set_at q.place.0 0 t) sheet qs (counted v q.points y)) (judged q earlier t k e)
       ∙ marked_known qs (q.place.0 ∷ earlier) (set_at q.place.0 0 t) (counted (verdict_on fs sheet q) q.points y)
       (knows_next fs earlier t q.place.0 k)
-      ∙ ap (λ (m : Marked). if questions_fit fs (q.place.0 ∷ earlier) qs then m else marks.Refused 15) (summed_next q qs y)
-      ∙ ap (λ (b : Bool). if b then summed (q ∷ qs) y else marks.Refused 15) (sym (and_true (questions_fit fs (q.place.0 ∷ earlier) qs) e)))
+      ∙ ap (λ (m : Marked). when questions_fit fs (q.place.0 ∷ earlier) qs then m else marks.Refused 15) (summed_next q qs y)
+      ∙ ap (λ (b : Bool). when b then summed (q ∷ qs) y else marks.Refused 15) (sym (and_true (questions_fit fs (q.place.0 ∷ earlier) qs) e)))
       (λ e. if_false _ _ (fits_known fs earlier t q k ∙ e)
       ∙ sym (if_false _ _ (and_false (questions_fit fs (q.place.0 ∷ earlier) qs) e)))
 

@@ -9,7 +9,7 @@ use native.Mathlib.Omega.{arith}
 use lib.ListN.{length, get_or, take}
 use lib.Seq.{drop-cons}
 use borrow.Author.Tests.{eqb-true, eqb-false}
-use Rattle.laws.specs.Choice.{if◌then◌else◌, ◌and◌, ◌=?◌}
+use Rattle.laws.specs.Choice.{when◌then◌else◌, ◌and◌, ◌=?◌}
 use Rattle.laws.specs.Bytes.{byte_at}
 use Rattle.laws.proofs.Cases.{by_test, if_true, if_false, if_eq, if_ne, and_l, and_r}
 use Rattle.laws.proofs.Lists.{part_at_lem}
@@ -56,8 +56,8 @@ byte_one (OneByte.option n w) = refl
 
 -- points count for one verdict
 spread : (u : Verdict) (n : ℕ)
-    → (if same verdict.Right u then n else 0) + (if same verdict.Wrong u then n else 0) + (if same verdict.Blank u then n else 0) ≡ n
-unfolding if◌then◌else◌
+    → (when same verdict.Right u then n else 0) + (when same verdict.Wrong u then n else 0) + (when same verdict.Blank u then n else 0) ≡ n
+unfolding when◌then◌else◌
 spread verdict.Right n = omega arith
 spread verdict.Wrong n = omega arith
 spread verdict.Blank n = omega arith
@@ -90,17 +90,17 @@ module _ (fs : List Field) where
   unfolding sum_for share verdict_on
   same_sums s t v [] h = refl
   same_sums s t v (q ∷ qs) h =
-      ap (λ (b : ℕ). (if same v (verdict_of (default_at q.place.0 fs) q.right b) then q.points else 0) + sum_for fs s v qs) (h q (Memᴰ.head refl))
+      ap (λ (b : ℕ). (when same v (verdict_of (default_at q.place.0 fs) q.right b) then q.points else 0) + sum_for fs s v qs) (h q (Memᴰ.head refl))
       ∙ ap (λ (n : ℕ). share fs t v q + n) (same_sums s t v qs (λ r m. h r (Memᴰ.tail m)))
 
   -- a sheet with the default at each question's place
   all_blank : (s : List ℕ) (v : Verdict) (qs : List Question) → ((q : Question) → Memᴰ q qs → byte_at s q.place.0 ≡ default_at q.place.0 fs)
-      → sum_for fs s v qs ≡ (if same v verdict.Blank then points_in qs else 0)
+      → sum_for fs s v qs ≡ (when same v verdict.Blank then points_in qs else 0)
   unfolding sum_for share verdict_on verdict_of points_in
   all_blank s v [] h = by_test (same v verdict.Blank) (λ e. sym (if_true 0 0 e)) (λ e. sym (if_false 0 0 e))
   all_blank s v (q ∷ qs) h =
-      ap (λ (u : Verdict). (if same v u then q.points else 0) + sum_for fs s v qs) (if_eq _ _ _ _ (h q (Memᴰ.head refl)))
-      ∙ ap (λ (n : ℕ). (if same v verdict.Blank then q.points else 0) + n) (all_blank s v qs (λ r m. h r (Memᴰ.tail m)))
+      ap (λ (u : Verdict). (when same v u then q.points else 0) + sum_for fs s v qs) (if_eq _ _ _ _ (h q (Memᴰ.head refl)))
+      ∙ ap (λ (n : ℕ). (when same v verdict.Blank then q.points else 0) + n) (all_blank s v qs (λ r m. h r (Memᴰ.tail m)))
       ∙ by_test (same v verdict.Blank)
       (λ e. rw (if_true q.points 0 e, if_true (points_in qs) 0 e, if_true (q.points + points_in qs) 0 e))
       (λ e. rw (if_false q.points 0 e, if_false (points_in qs) 0 e, if_false (q.points + points_in qs) 0 e) (omega arith))
@@ -235,7 +235,7 @@ module _ (im : List ℕ) where
         byte_own p f opened x.here ∙ ap (λ (l : List ℕ). get_or l 0 0) ((rw r.0 at e) ∙ default_is im _ accepted p f x.here)
 
     module _ (key : List ℕ) (k : key_fits (fields_of im) key ≡ true) where
-      blank : (v : Verdict) → sum_of im opened key v ≡ (if same v verdict.Blank then points_in (questions_of key) else 0)
+      blank : (v : Verdict) → sum_of im opened key v ≡ (when same v verdict.Blank then points_in (questions_of key) else 0)
       blank v = all_blank (fields_of im) opened v (questions_of key) (λ q m. default_there q.place.0 (fitting key k q m))
 
       opened_blank : marked im opened key ≡ marks.Sums 0 0 (points_in (questions_of key))

@@ -7,7 +7,7 @@ use mathlib.Core.List.{List, []}
 use native.Mathlib.Omega.{arith}
 use lib.ListN.{length, get_or, take, length-map, get_or-eq_default}
 use borrow.Author.Tests.{ltb-true, ltb-false}
-use Rattle.laws.specs.Choice.{if◌then◌else◌, ◌=?◌, ◌<?◌}
+use Rattle.laws.specs.Choice.{when◌then◌else◌, ◌=?◌, ◌<?◌}
 use Rattle.laws.specs.Overwrite.{fit}
 use Rattle.laws.proofs.Cases.{by_test, if_true, if_false, if_eq, if_ne, and_r, and_true, and_false}
 use Rattle.laws.proofs.Overwriting.{length_fit, fit_at, take_fit}
@@ -68,12 +68,12 @@ module _ (im : List ℕ) (extent : ℕ) (z : refusal_of im extent ≡ 0) where
 -- ---- the answers of the call
 
 pub refused_order : (im : List ℕ) (extent : ℕ) (key : List ℕ)
-    → mark_refusal im extent key ≡ (if refusal_of im extent =? 0 then (if key_fits (fields_of im) key then 0 else 15) else refusal_of im extent)
+    → mark_refusal im extent key ≡ (when refusal_of im extent =? 0 then (when key_fits (fields_of im) key then 0 else 15) else refusal_of im extent)
 unfolding mark_refusal ◌before◌ ◌unless◌
 refused_order im extent key = refl
 
 -- for an accepted image the key decides
-pub by_key : (im : List ℕ) (extent : ℕ) (key : List ℕ) → refusal_of im extent ≡ 0 → mark_refusal im extent key ≡ (if key_fits (fields_of im) key then 0 else 15)
+pub by_key : (im : List ℕ) (extent : ℕ) (key : List ℕ) → refusal_of im extent ≡ 0 → mark_refusal im extent key ≡ (when key_fits (fields_of im) key then 0 else 15)
 by_key im extent key z = refused_order im extent key ∙ if_eq _ 0 _ _ z
 
 module _ (im sheet key : List ℕ) (k : ℕ) (q : k ≡ refusal_of im (length sheet)) where
@@ -97,7 +97,7 @@ module _ (im sheet key : List ℕ) (k : ℕ) (q : k ≡ refusal_of im (length sh
     accepted : refusal_of im (length sheet) ≡ 0
     accepted = sym q ∙ z
 
-    told : mark_refusal im (length sheet) key ≡ (if key_fits (fields_of im) key then 0 else 15)
+    told : mark_refusal im (length sheet) key ≡ (when key_fits (fields_of im) key then 0 else 15)
     told = by_key im (length sheet) key accepted
 
     -- the sums, from nothing on
@@ -107,13 +107,13 @@ module _ (im sheet key : List ℕ) (k : ℕ) (q : k ≡ refusal_of im (length sh
 
     -- by the table, as by the fields: a key that fits has its sums
     known_key : marked_all (with_fields (fields_of im) zeros) sheet key
-        ≡ (if key_fits (fields_of im) key then summed (fields_of im) sheet (questions_of key) no_points else marks.Refused 15)
+        ≡ (when key_fits (fields_of im) key then summed (fields_of im) sheet (questions_of key) no_points else marks.Refused 15)
     unfolding marked_all key_fits
     known_key =
         by_test ((length key % 3) =? 0)
         (λ w. if_true _ _ w
         ∙ marked_known (fields_of im) sheet (questions_of key) [] (with_fields (fields_of im) zeros) no_points (knows_all im (length sheet) accepted)
-        ∙ ap (λ (b : Bool). if b then summed (fields_of im) sheet (questions_of key) no_points else marks.Refused 15) (sym (and_true _ w)))
+        ∙ ap (λ (b : Bool). when b then summed (fields_of im) sheet (questions_of key) no_points else marks.Refused 15) (sym (and_true _ w)))
         (λ w. if_false _ _ w ∙ sym (if_false _ _ (and_false _ w)))
 
     known_marks : marked_all (with_fields (fields_of im) zeros) sheet key ≡ marked im sheet key

@@ -7,7 +7,7 @@ use native.Mathlib.Omega.{arith}
 use lib.ListN.{length, get_or, set, take, length-set, get_or-eq_default}
 use lib.Seq.{get_or-set_same, get_or-set_other, take-suc}
 use borrow.Author.Tests.{eqb-true, eqb-false, ltb-true, ltb-false}
-use Rattle.laws.specs.Choice.{if◌then◌else◌, ◌=?◌, ◌<?◌}
+use Rattle.laws.specs.Choice.{when◌then◌else◌, ◌=?◌, ◌<?◌}
 use Rattle.laws.specs.Bytes.{byte_at}
 use Rattle.laws.proofs.Cases.{if_ind, by_test, if_true, if_false, if_eq, if_ne, if_lt, if_ge, if_max, and_true, and_false}
 use Rattle.field.specs.Values.{bytes_of}
@@ -24,7 +24,7 @@ length_set_at : (p n : ℕ) (t : List ℕ) → length (set_at p n t) ≡ length 
 unfolding set_at
 length_set_at p n t = if_ind (λ (u : List ℕ). length u ≡ length t) (p <? length t) (λ _. length-set t p n) (λ _. refl)
 
-at_set : (p n x : ℕ) (t : List ℕ) → p < length t → get_or (set_at p n t) x 0 ≡ (if p =? x then n else get_or t x 0)
+at_set : (p n x : ℕ) (t : List ℕ) → p < length t → get_or (set_at p n t) x 0 ≡ (when p =? x then n else get_or t x 0)
 unfolding set_at
 at_set p n x t h =
     ap (λ (u : List ℕ). get_or u x 0) (if_lt p (length t) (set t p n) t h)
@@ -33,7 +33,7 @@ at_set p n x t h =
     (λ e. get_or-set_other t p x n 0 (λ q. eqb-false p x e (sym q)) ∙ sym (if_false n (get_or t x 0) e))
 
 -- a place taken out
-pub at_taken_out : (p x : ℕ) (t : List ℕ) → get_or (set_at p 0 t) x 0 ≡ (if p =? x then 0 else get_or t x 0)
+pub at_taken_out : (p x : ℕ) (t : List ℕ) → get_or (set_at p 0 t) x 0 ≡ (when p =? x then 0 else get_or t x 0)
 unfolding set_at
 at_taken_out p x t =
     by_test (p <? length t) (λ e. at_set p 0 x t (ltb-true p (length t) e))
@@ -137,7 +137,7 @@ open_fields (f ∷ fs) t z =
 
 -- the number of a place, with the fields fs entered in a table of zeros
 abbrev pub number_at : ℕ → List Field → ℕ
-number_at p fs = if has_field p fs then default_at p fs + 1 else 0
+number_at p fs = when has_field p fs then default_at p fs + 1 else 0
 
 -- a field that is not at a place, and one that is
 number_next : (p : ℕ) (f : Field) (fs : List Field) → is_byte_at p f ≡ false → number_at p (f ∷ fs) ≡ number_at p fs

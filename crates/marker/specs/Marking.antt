@@ -1,7 +1,7 @@
 -- 02, No. 1: what a sheet gets by a key. A question is about the byte of a one-byte field, which counts as
 -- right, wrong or blank.
 use Rattle.std.specs.Prelude.{ℕ, ◌+◌, ◌%◌, Bool, true, false, not, List, [], ◌∷◌, length}
-use Rattle.laws.specs.Choice.{if◌then◌else◌, ◌and◌, ◌=?◌, ◌≤?◌}
+use Rattle.laws.specs.Choice.{when◌then◌else◌, ◌and◌, ◌=?◌, ◌≤?◌}
 use Rattle.laws.specs.Bytes.{byte_at}
 use Rattle.field.specs.Values.{bytes_of}
 use Rattle.field.specs.Sheet.{size_of}
@@ -25,12 +25,12 @@ is_byte_at p f = (f.sheet.0 =? p) and (size_of f =? 1)
 -- whether one of these fields does
 unfoldable pub has_field : ℕ → List Field → Bool
 has_field p [] = false
-has_field p (f ∷ fs) = if is_byte_at p f then true else has_field p fs
+has_field p (f ∷ fs) = when is_byte_at p f then true else has_field p fs
 
 -- R41: the default of that field, the byte that Open writes; 0 where there is none
 unfoldable pub default_at : ℕ → List Field → ℕ
 default_at p [] = 0
-default_at p (f ∷ fs) = if is_byte_at p f then byte_at (bytes_of f.default) 0 else default_at p fs
+default_at p (f ∷ fs) = when is_byte_at p f then byte_at (bytes_of f.default) 0 else default_at p fs
 
 -- ---- 02, No. 1: refusal 15, with the fields of an image
 
@@ -70,7 +70,7 @@ mark_refusal im extent key = refusal_of im extent before (15 unless key_fits (fi
 -- R42: the default counts as blank, the key's byte as right, any other as wrong, in range or not
 unfoldable pub verdict_of : ℕ → ℕ → ℕ → Verdict
 verdict_of default right byte =
-    if byte =? default then verdict.Blank else (if byte =? right then verdict.Right else verdict.Wrong)
+    when byte =? default then verdict.Blank else (when byte =? right then verdict.Right else verdict.Wrong)
 
 -- whether two verdicts are the same
 abbrev pub same : Verdict → Verdict → Bool
@@ -91,7 +91,7 @@ module _ (fs : List Field) (sheet : List ℕ) where
 
   -- what a question adds to the sum of a verdict: its points, or nothing
   unfoldable pub share : Verdict → Question → ℕ
-  share v q = if same v (verdict_on q) then q.points else 0
+  share v q = when same v (verdict_on q) then q.points else 0
 
   -- the sum of a verdict over questions
   unfoldable pub sum_for : Verdict → List Question → ℕ
@@ -112,7 +112,7 @@ sum_of im sheet key v = sum_for (fields_of im) sheet v (questions_of key)
 -- the three sums; or the refusal number, and no sums
 unfoldable pub marked : List ℕ → List ℕ → List ℕ → Marked
 marked im sheet key =
-    if mark_refusal im (length sheet) key =? 0
+    when mark_refusal im (length sheet) key =? 0
     then marks.Sums (sum_of im sheet key verdict.Right) (sum_of im sheet key verdict.Wrong)
     (sum_of im sheet key verdict.Blank)
     else marks.Refused (mark_refusal im (length sheet) key)

@@ -3,7 +3,7 @@
 -- and demand 3. Each clause has a mark, as in `promises`: (theorem), or (by definition).
 use Rattle.std.specs.Prelude.{ℕ, ◌+◌, ◌*◌, ◌%◌, ◌≤◌, ◌<◌, ◌≡◌, ◌≢◌, ◌↔◌, true, false, length}
 use mathlib.Core.List.{List, [], ◌∷◌, map, Memᴰ}
-use Rattle.laws.specs.Choice.{if◌then◌else◌, ◌=?◌}
+use Rattle.laws.specs.Choice.{when◌then◌else◌, ◌=?◌}
 use Rattle.laws.specs.Bytes.{byte_at}
 use Rattle.field.specs.Values.{bytes_of}
 use Rattle.field.specs.Sheet.{size_of, own_bytes}
@@ -103,7 +103,7 @@ pub record MarkerPromises (im : List ℕ) : Type 0 where
   -- (by definition) the number for image and sheet comes first (2 to 11: `Demand1`), then 15
   pub order : (extent : ℕ) (key : List ℕ)
       → mark_refusal im extent key
-      ≡ (if refusal_of im extent =? 0 then (if key_fits (fields_of im) key then 0 else 15)
+      ≡ (when refusal_of im extent =? 0 then (when key_fits (fields_of im) key then 0 else 15)
       else refusal_of im extent)
   -- (theorem) for an accepted image 15 is given exactly for No. 1's causes
   pub faults : (extent : ℕ) (key : List ℕ) → refusal_of im extent ≡ 0

@@ -4,7 +4,7 @@ use mathlib.Core.Path.{◌≡◌, ap, ◌∙◌}
 use mathlib.Core.Bool.{Bool, true, false}
 use mathlib.Core.List.{List, []}
 use native.Mathlib.Omega.{arith}
-use Rattle.laws.specs.Choice.{if◌then◌else◌, ◌=?◌}
+use Rattle.laws.specs.Choice.{when◌then◌else◌, ◌=?◌}
 use Rattle.laws.proofs.Cases.{if_true, if_false, if_eq, if_ne, if_max}
 use Rattle.cmf.specs.Readers.{component_at}
 use Rattle.cmf.specs.Places.{components_from, components_of}
@@ -18,11 +18,11 @@ module _ (im : List ℕ) (place : ℕ) where
   pub before_here : (left p sum : ℕ) → 0 < left → p ≡ place → sum ≤ 255 → sum ≡ min 255 (sum + cells_before im place (components_from im left p))
   unfolding cells_before components_from
   before_here zero p sum h e l = absurd (omega arith)
-  before_here (suc n) p sum h e l = rw (if_eq p place 0 (width_at im p (component_at im p) + cells_before im place (if (component_at im p).last then [] else components_from im n (component_at im p).next.0)) e) (omega arith)
+  before_here (suc n) p sum h e l = rw (if_eq p place 0 (width_at im p (component_at im p) + cells_before im place (when (component_at im p).last then [] else components_from im n (component_at im p).next.0)) e) (omega arith)
 
   before_one : (left p : ℕ) (c : Component) → 0 < left → (p ≡ place → ⊥) → c ≡ component_at im p
       → cells_before im place (components_from im left p)
-      ≡ width_at im p c + cells_before im place (if c.last then [] else components_from im (left - 1) c.next.0)
+      ≡ width_at im p c + cells_before im place (when c.last then [] else components_from im (left - 1) c.next.0)
   unfolding cells_before components_from
   before_one zero p c h n e = absurd (omega arith)
   before_one (suc k) p c h n e = let z : suc k - 1 ≡ k = omega arith in if_ne p place _ _ n ∙ rw (z, e)

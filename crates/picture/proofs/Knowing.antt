@@ -6,7 +6,7 @@ use mathlib.Core.List.{List, []}
 use native.Mathlib.Omega.{arith}
 use lib.ListN.{length}
 use borrow.Author.Tests.{lt-ltb, le-ltb, le-leb, lt-leb, eq-eqb, ne_eqb, ltb-true, ltb-false, leb-true, leb-false, eqb-true, eqb-false}
-use Rattle.laws.specs.Choice.{if◌then◌else◌, ◌=?◌, ◌<?◌, ◌≤?◌}
+use Rattle.laws.specs.Choice.{when◌then◌else◌, ◌=?◌, ◌<?◌, ◌≤?◌}
 use Rattle.laws.proofs.Cases.{if_ind, if_true, if_false, by_test}
 use Rattle.cmf.specs.Limits.{most_lines_of_table}
 use Rattle.cmf.specs.Readers.{title_at, head_at}
@@ -98,7 +98,7 @@ module _ (im : List ℕ) where
     goes l q m = at_more 100 k (title_at im t).line.0 l (head_last false q) m
 
     pub known_turn : (count r : ℕ) → count ≡ min (k + 1) (line_count im t)
-        → r ≡ (if count ≤? k then count else if h.last then count else if most_lines_of_table <? count then count else count + 1) → r ≡ min (k + 1 + 1) (line_count im t)
+        → r ≡ (when count ≤? k then count else when h.last then count else when most_lines_of_table <? count then count else count + 1) → r ≡ min (k + 1 + 1) (line_count im t)
     known_turn count r g q =
         q
         ∙ if_ind (λ (x : ℕ). x ≡ min (k + 1 + 1) (line_count im t)) (count ≤? k) (λ a. omega (arith, leb-true count k a))
@@ -108,7 +108,7 @@ module _ (im : List ℕ) where
         (λ m. let n = ltb-false most_lines_of_table count m in omega (arith, goes (omega arith) l (omega arith)))))
 
   -- the place of the cursor line, once it is passed
-  pub cursor_turn : (t k from cursor p other r : ℕ) → (from ≤ cursor → cursor < k → other ≡ line_at im t cursor) → r ≡ (if k =? cursor then p else other) → p ≡ line_at im t k
+  pub cursor_turn : (t k from cursor p other r : ℕ) → (from ≤ cursor → cursor < k → other ≡ line_at im t cursor) → r ≡ (when k =? cursor then p else other) → p ≡ line_at im t k
       → from ≤ cursor → cursor < k + 1 → r ≡ line_at im t cursor
   cursor_turn t k from cursor p other r f q e a b =
       q

@@ -5,7 +5,7 @@ use mathlib.Core.Bool.{Bool, true, false}
 use mathlib.Core.List.{List, [], ◌∷◌, ◌++◌}
 use native.Mathlib.Omega.{arith}
 use lib.ListN.{length, take, drop, set, replicate, length-take, length-drop}
-use Rattle.laws.specs.Choice.{if◌then◌else◌, ◌=?◌}
+use Rattle.laws.specs.Choice.{when◌then◌else◌, ◌=?◌}
 use Rattle.laws.specs.Bytes.{byte_at}
 use Rattle.laws.specs.Overwrite.{fit, over}
 use Rattle.laws.proofs.Overwriting.{length_fit}
@@ -47,7 +47,7 @@ module _ {x z : List ℕ} {at r : ℕ} (im sheet : List ℕ) (s : Session) (p : 
 module _ {d e f all : List ℕ} {start m k : ℕ} (im sheet : List ℕ) (s : Session) where
   data_turn : (left p : ℕ) (c : Component) → 0 < left → c ≡ component_at im p → Rest d start all e m (data_text im sheet s (components_from im left p))
       → Put e m (component_text im sheet s p c) f k
-      → Rest d start all f k (data_text im sheet s (if c.last then [] else components_from im (left - 1) c.next.0))
+      → Rest d start all f k (data_text im sheet s (when c.last then [] else components_from im (left - 1) c.next.0))
   unfolding data_text components_from
   data_turn zero p c h q r a = absurd (omega arith)
   data_turn (suc n) p c h q r a = let z : suc n - 1 ≡ n = omega arith in rw z (rest_step (rw (← q) at r) a)
@@ -80,13 +80,13 @@ last_cell (x ∷ a) r zero e p q = absurd (omega arith)
 last_cell (x ∷ a) r (suc n) e p q = ap (λ (z : List ℕ). x ∷ z) (last_cell a r n e (omega arith) q)
 
 pub line_row_is : {a : List ℕ} {e : ℕ} (im sheet : List ℕ) (s : Session) (k p : ℕ) (h : Head) (row : List ℕ) → 2 ≤ s.columns → length row ≡ s.columns → h ≡ head_at im p
-    → a ≡ fit blank (length (take (s.columns - 1) row)) ((if k =? s.here.cursor then greater else blank) ∷ data_text im sheet s (components_from im (length im + 1) h.component.0))
+    → a ≡ fit blank (length (take (s.columns - 1) row)) ((when k =? s.here.cursor then greater else blank) ∷ data_text im sheet s (components_from im (length im + 1) h.component.0))
     → e ≡ submenu_mark h → set (a ++ drop (s.columns - 1) row) (s.columns - 1) e ≡ line_row im sheet s k p
 unfolding line_row components_of fit
 line_row_is {a = a} {e = e} im sheet s k p h row w l q f g =
     let n : length (take (s.columns - 1) row) ≡ suc (s.columns - 2) = omega (arith, length-take (s.columns - 1) row) in
     let m : length (drop (s.columns - 1) row) ≡ 1 = omega (arith, length-drop (s.columns - 1) row) in
-    let o : a ≡ (if k =? s.here.cursor then greater else blank) ∷ fit blank (s.columns - 2) (data_text im sheet s (components_from im (length im + 1) h.component.0)) = f ∙ rw n in
+    let o : a ≡ (when k =? s.here.cursor then greater else blank) ∷ fit blank (s.columns - 2) (data_text im sheet s (components_from im (length im + 1) h.component.0)) = f ∙ rw n in
     let i : length a ≡ s.columns - 1 = rw o (omega (arith, length_fit blank (s.columns - 2) (data_text im sheet s (components_from im (length im + 1) h.component.0)))) in
     last_cell a (drop (s.columns - 1) row) (s.columns - 1) e i m ∙ rw (o, g, q)
 
@@ -119,7 +119,7 @@ module _ (im : List ℕ) (l : Level) (h : Head) (f : Found) (e : h ≡ cursor_he
 
 module _ (im : List ℕ) (left p : ℕ) (c : Component) (all : Found) (mark r : ℕ) (l : 0 < left) (e : c ≡ component_at im p)
     (before : mark ≡ 0 → first_editable im (components_from im left p) ≡ all) (cursor_place : (mark ≡ 0 → ⊥) → mark ≡ mark_of all)
-    (q : r ≡ (if mark =? 0 then (if c.editable then colon else if c.last then star else 0) else mark)) where
+    (q : r ≡ (when mark =? 0 then (when c.editable then colon else when c.last then star else 0) else mark)) where
   here_editable : mark ≡ 0 → c.editable ≡ true → r ≡ mark_of all
   here_editable z a = q ∙ if_eq mark 0 _ _ z ∙ if_true _ _ a ∙ rw (sym (before z) ∙ editable_here im left p c l e a)
 
@@ -145,7 +145,7 @@ module _ (im : List ℕ) (left p : ℕ) (c : Component) (all : Found) (mark r : 
       (λ h. absurd (eqb-false mark 0 h (sym (q ∙ if_ne mark 0 _ _ (eqb-false mark 0 h)) ∙ y)))
 
 -- of the line that the cursor is on
-pub mark_turn : (im : List ℕ) (l : Level) (k p mark other r : ℕ) → p ≡ line_at im l.table.0 k → r ≡ (if k =? l.cursor then mark else other)
+pub mark_turn : (im : List ℕ) (l : Level) (k p mark other r : ℕ) → p ≡ line_at im l.table.0 k → r ≡ (when k =? l.cursor then mark else other)
     → ((mark ≡ 0 → ⊥) → mark ≡ mark_of (first_editable im (components_of im p))) → ((other ≡ 0 → ⊥) → other ≡ edit_mark im l) → (r ≡ 0 → ⊥) → r ≡ edit_mark im l
 unfolding edit_mark
 mark_turn im l k p mark other r e q f g n =

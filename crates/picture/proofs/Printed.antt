@@ -2,7 +2,7 @@
 use Prim.Native.Nat.{ℕ}
 use mathlib.Core.Path.{◌≡◌, refl}
 use mathlib.Core.List.{List, [], ◌∷◌}
-use Rattle.laws.specs.Choice.{if◌then◌else◌, ◌and◌}
+use Rattle.laws.specs.Choice.{when◌then◌else◌, ◌and◌}
 use Rattle.laws.specs.Bytes.{word_at, room}
 use Rattle.laws.specs.Overwrite.{fit}
 use Rattle.laws.specs.Digits.{from_low, number_from}
@@ -27,5 +27,5 @@ printed =
     0x20 ∷ 0x20 ∷ 0x20 ∷ 0x20 ∷ 0x20 ∷ 0x20 ∷ 0x20 ∷ 0x20 ∷ 0x20 ∷ 0x20 ∷ 0x20 ∷ 0x20 ∷ 0x20 ∷ 0x20 ∷ 0x20 ∷ 0x20 ∷ []
 
 pub picture_printed : picture_of image (0 ∷ []) (opened 16 4) ≡ printed
-unfolding if◌then◌else◌ ◌and◌ word_at room fit from_low number_from profile_of cell_of number_of cells_of in_span within all_within in_range work_of kind_fits settings_fit texts_from item_from text_bytes title_by title_at head_by head_at fixed_bytes text_count given kind_at default_place sheet_place_at laid_out component_by component_at lines_from lines_of components_from components_of line_from line_at line_count opened cursor_head cells_text field_text visiting component_text first_editable edit_mark line_number more_mark title_row top_row_in data_text submenu_mark line_row row_at rows_from rows_below picture_of
+unfolding when◌then◌else◌ ◌and◌ word_at room fit from_low number_from profile_of cell_of number_of cells_of in_span within all_within in_range work_of kind_fits settings_fit texts_from item_from text_bytes title_by title_at head_by head_at fixed_bytes text_count given kind_at default_place sheet_place_at laid_out component_by component_at lines_from lines_of components_from components_of line_from line_at line_count opened cursor_head cells_text field_text visiting component_text first_editable edit_mark line_number more_mark title_row top_row_in data_text submenu_mark line_row row_at rows_from rows_below picture_of
 picture_printed = refl

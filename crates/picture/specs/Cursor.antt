@@ -1,6 +1,6 @@
 -- The edit cursor (01, Picture; R31 and R32).
 use Rattle.std.specs.Prelude.{ℕ, ◌+◌, ◌-◌, ◌*◌, min, List, [], ◌∷◌, length}
-use Rattle.laws.specs.Choice.{if◌then◌else◌, ◌=?◌}
+use Rattle.laws.specs.Choice.{when◌then◌else◌, ◌=?◌}
 use Rattle.field.specs.declared.kind.Kind.{Kind}
 use Rattle.field.specs.declared.kind.Kind.TheVariants.{Integer, Counter, Time, Date, Switch, Option, Trigger}
 use Rattle.cmf.specs.Readers.{text_bytes, component_at}
@@ -21,7 +21,7 @@ cursor_place (At row column) = row ∷ column ∷ []
 
 -- R32: the first cell of part i of a date whose year has so many digits
 unfoldable pub date_part : ℕ → ℕ → ℕ
-date_part year i = if i =? 0 then 0 else year + 1 + 3 * (i - 1)
+date_part year i = when i =? 0 then 0 else year + 1 + 3 * (i - 1)
 
 -- which of its component's cells the cursor is on, where cell or part i is chosen
 unfoldable pub cell_within : Kind → ℕ → ℕ
@@ -35,12 +35,12 @@ cell_within Trigger i = 1
 
 -- the cells of the component at a place
 unfoldable pub width_at : List ℕ → ℕ → Component → ℕ
-width_at im p c = if c.fielded then width_of c.field.kind else length (text_bytes im (p + 1))
+width_at im p c = when c.fielded then width_of c.field.kind else length (text_bytes im (p + 1))
 
 -- the cells of the components before the one at a place
 unfoldable pub cells_before : List ℕ → ℕ → List ℕ → ℕ
 cells_before im place [] = 0
-cells_before im place (p ∷ ps) = if p =? place then 0
+cells_before im place (p ∷ ps) = when p =? place then 0
     else width_at im p (component_at im p) + cells_before im place ps
 
 -- R31: the data cell that the cursor is on, or the last that is shown

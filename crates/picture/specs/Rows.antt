@@ -1,7 +1,7 @@
 -- The picture (01, Picture), row by row.
 use Rattle.std.specs.Prelude.{ℕ, zero, suc, ◌+◌, ◌-◌, ◌*◌, ◌/◌, ◌%◌, Bool, false, List, [], ◌∷◌, ◌++◌}
 use Rattle.std.specs.Prelude.{length, replicate}
-use Rattle.laws.specs.Choice.{if◌then◌else◌, ◌=?◌, ◌<?◌, ◌≤?◌}
+use Rattle.laws.specs.Choice.{when◌then◌else◌, ◌=?◌, ◌<?◌, ◌≤?◌}
 use Rattle.laws.specs.Bytes.{byte_at}
 use Rattle.laws.specs.Overwrite.{fit}
 use Rattle.cmf.specs.Readers.{text_bytes, head_at, component_at}
@@ -43,11 +43,11 @@ edit_mark im l = mark_of (first_editable im (components_of im (cursor_line im l)
 
 -- a line's number, at most 99, right aligned in two cells
 unfoldable pub line_number : ℕ → List ℕ
-line_number n = (if n <? 10 then blank else digit0 + n / 10) ∷ (digit0 + n % 10) ∷ []
+line_number n = (when n <? 10 then blank else digit0 + n / 10) ∷ (digit0 + n % 10) ∷ []
 
 -- whether the table has more lines than rows, and then whether the cursor has reached the last
 unfoldable pub more_mark : ℕ → ℕ → ℕ → ℕ
-more_mark count rows cursor = if count ≤? rows then blank else if cursor + 1 =? count then exclamation
+more_mark count rows cursor = when count ≤? rows then blank else when cursor + 1 =? count then exclamation
     else plus
 
 -- the title in all but four columns, then the marks with the number between them
@@ -91,8 +91,8 @@ visiting (mode.Password n) p = false
 -- string shows its bytes as they are
 unfoldable pub component_text : List ℕ → List ℕ → Session → ℕ → Component → List ℕ
 component_text im sheet s p c =
-    if c.fielded then
-    (if visiting s.mode p then cells_text im p c.field.kind s.work.cells
+    when c.fielded then
+    (when visiting s.mode p then cells_text im p c.field.kind s.work.cells
     else field_text im sheet p c.field)
     else text_bytes im (p + 1)
 
@@ -103,19 +103,19 @@ data_text im sheet s (p ∷ ps) = component_text im sheet s p (component_at im p
 
 -- where the line leads: to a protected submenu, to another, or nowhere
 unfoldable pub submenu_mark : Head → ℕ
-submenu_mark h = if h.protected then capital_p else if h.submenu then greater else blank
+submenu_mark h = when h.protected then capital_p else when h.submenu then greater else blank
 
 -- line k, from 0, which is at p: the cursor's mark, the data in all but two columns, and where it leads
 unfoldable pub line_row : List ℕ → List ℕ → Session → ℕ → ℕ → List ℕ
 line_row im sheet s k p =
-    (if k =? s.here.cursor then greater else blank)
+    (when k =? s.here.cursor then greater else blank)
     ∷ (fit blank (s.columns - 2) (data_text im sheet s (components_of im p))
     ++ (submenu_mark (head_at im p) ∷ []))
 
 -- R10: every line has its row, whatever its enable byte; R30: of a table of so many lines a row past the last
 -- is blank
 unfoldable pub row_at : List ℕ → List ℕ → Session → ℕ → ℕ → ℕ → List ℕ
-row_at im sheet s count k p = if k <? count then line_row im sheet s k p else fit blank s.columns []
+row_at im sheet s count k p = when k <? count then line_row im sheet s k p else fit blank s.columns []
 
 -- n rows from line k on, which is at p; past the last line p has no meaning and is not read
 unfoldable pub rows_from : List ℕ → List ℕ → Session → ℕ → ℕ → ℕ → ℕ → List ℕ
@@ -137,5 +137,5 @@ picture_of im sheet s = top_row im s ++ rows_below im sheet s
 -- where they are not as many as it has cells
 unfoldable pub filled : List ℕ → List ℕ → Session → List ℕ → List ℕ
 filled im sheet s d =
-    if shape_fits s.columns s.lines
-    then (if length d =? s.columns * s.lines then picture_of im sheet s else d) else d
+    when shape_fits s.columns s.lines
+    then (when length d =? s.columns * s.lines then picture_of im sheet s else d) else d

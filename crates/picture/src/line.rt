@@ -1,6 +1,6 @@
 // The row of a line.
 ghost use Rattle.std.specs.Prelude.{◌≡◌, ◌∷◌, ◌≤◌, length};
-ghost use Rattle.laws.specs.Choice.{if◌then◌else◌, ◌=?◌};
+ghost use Rattle.laws.specs.Choice.{when◌then◌else◌, ◌=?◌};
 ghost use Rattle.laws.specs.Overwrite.{fit};
 ghost use Rattle.cmf.specs.Readers.{head_at};
 ghost use Rattle.cmf.specs.Places.{components_of, rest_of_line, first_editable};
@@ -25,7 +25,7 @@ struct Marked {
 // The mark by one component more, which is the last of its line or not.
 fn mark_by(mark: u8, editable: bool, last: bool) -> u8
     ensures { result
-        ≡ if mark =? 0 then (if editable then colon else if last then star else 0) else mark }
+        ≡ when mark =? 0 then (when editable then colon else when last then star else 0) else mark }
 {
     if mark != 0 {
         return mark;
@@ -84,7 +84,7 @@ fn put_data(
 }
 
 fn cursor_mark(k: usize, cursor: u8) -> u8
-    ensures { result ≡ if k =? cursor then greater else blank }
+    ensures { result ≡ when k =? cursor then greater else blank }
 {
     if k == cursor as usize { b'>' } else { b' ' }
 }
@@ -116,7 +116,7 @@ fn put_start(
         → result ≡ mark_of (first_editable image.now (rest_of_line image.now first)) }
     ensures row_after { row.new
         ≡ fit blank (length row.old)
-        ((if k =? session.here.cursor then greater else blank)
+        ((when k =? session.here.cursor then greater else blank)
         ∷ data_text image.now sheet.now session
         (rest_of_line image.now first)) }
 {

@@ -1,6 +1,6 @@
 // The whole picture: row 0, and the rows of lines below it.
 ghost use Rattle.std.specs.Prelude.{◌≡◌, true, ◌+◌, ◌-◌, ◌*◌, ◌<◌, ◌≤◌, min, length};
-ghost use Rattle.laws.specs.Choice.{if◌then◌else◌, ◌=?◌, ◌<?◌, ◌≤?◌};
+ghost use Rattle.laws.specs.Choice.{when◌then◌else◌, ◌=?◌, ◌<?◌, ◌≤?◌};
 ghost use Rattle.laws.specs.Overwrite.{over};
 ghost use Rattle.cmf.specs.Limits.{most_lines_of_table};
 ghost use Rattle.cmf.specs.Readers.{head_at};
@@ -50,7 +50,7 @@ fn known_to(image: &[u8], table: usize, k: usize) -> Known
 
 // Of so many lines up to line k, which is the last or not, those up to the one after it.
 fn known_next(count: usize, k: usize, last: bool) -> usize
-    ensures { result ≡ if count ≤? k then count else if last then count else if most_lines_of_table <? count
+    ensures { result ≡ when count ≤? k then count else when last then count else when most_lines_of_table <? count
         then count else count + 1 }
 {
     if count <= k {
@@ -67,14 +67,14 @@ fn known_next(count: usize, k: usize, last: bool) -> usize
 
 // The place of line k where the cursor is on it.
 fn chosen(k: usize, cursor: u8, place: usize, other: usize) -> usize
-    ensures { result ≡ if k =? cursor then place else other }
+    ensures { result ≡ when k =? cursor then place else other }
 {
     if k == cursor as usize { place } else { other }
 }
 
 // Its mark.
 fn chosen_mark(k: usize, cursor: u8, mark: u8, other: u8) -> u8
-    ensures { result ≡ if k =? cursor then mark else other }
+    ensures { result ≡ when k =? cursor then mark else other }
 {
     if k == cursor as usize { mark } else { other }
 }

@@ -2,7 +2,7 @@
 ghost use Rattle.std.specs.Prelude.{◌≡◌, [], ◌∷◌, ◌++◌, ◌+◌, ◌-◌, ◌≤◌, length};
 ghost use Rattle.session.specs.Fits.{cursor_line};
 ghost use Rattle.cmf.specs.Places.{line_count};
-ghost use Rattle.laws.specs.Choice.{if◌then◌else◌, ◌=?◌};
+ghost use Rattle.laws.specs.Choice.{when◌then◌else◌, ◌=?◌};
 ghost use Rattle.laws.specs.Overwrite.{over};
 ghost use Rattle.laws.specs.Digits.{digit0};
 ghost use Rattle.texts.specs.Texts.{blank};
@@ -49,7 +49,7 @@ fn more_mark(count: usize, rows: usize, cursor: u8) -> u8
 // The first cell of a line's number, by its tens.
 fn tens_char(tens: u32) -> u8
     requires { tens ≤ 25 }
-    ensures { result ≡ (if tens =? 0 then blank else digit0 + tens) }
+    ensures { result ≡ (when tens =? 0 then blank else digit0 + tens) }
 {
     if tens == 0 {
         return b' ';
@@ -114,7 +114,7 @@ struct Entry {
 }
 
 fn entry_of(image: &[u8], session: Session) -> Entry
-    ensures { top_row image.now session ≡ if result.open
+    ensures { top_row image.now session ≡ when result.open
         then password_row image.now session result.typed
         else title_row image.now session }
 {

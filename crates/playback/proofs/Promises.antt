@@ -8,7 +8,7 @@ use mathlib.Core.List.{List, [], ◌∷◌, ◌++◌}
 use native.Mathlib.Omega.{arith}
 use lib.ListN.{length, take, drop}
 use borrow.Author.Tests.{le-leb, leb-true}
-use Rattle.laws.specs.Choice.{if◌then◌else◌, ◌=?◌, ◌≤?◌}
+use Rattle.laws.specs.Choice.{when◌then◌else◌, ◌=?◌, ◌≤?◌}
 use Rattle.laws.specs.Overwrite.{over}
 use Rattle.laws.proofs.Cases.{if_eq, if_ne, and_l, and_r}
 use Rattle.laws.proofs.Frame.{put_fits}
@@ -120,7 +120,7 @@ as_recorded im sheet columns lines es room list r o l =
 
 playback_order : (im : List ℕ) (extent columns lines : ℕ) (rec : List ℕ) (room : ℕ)
     → play_refusal im extent columns lines rec room
-    ≡ (if record_refusal rec =? 0 then (if length (events_of rec) ≤? room then open_refusal im extent columns lines else 25) else record_refusal rec)
+    ≡ (when record_refusal rec =? 0 then (when length (events_of rec) ≤? room then open_refusal im extent columns lines else 25) else record_refusal rec)
 unfolding play_refusal list_refusal ◌before◌
 playback_order im extent columns lines rec room =
     before_before (record_refusal rec) _ _

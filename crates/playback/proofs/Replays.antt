@@ -7,7 +7,7 @@ use mathlib.Core.List.{List}
 use native.Mathlib.Omega.{arith}
 use lib.ListN.{length, take, drop}
 use borrow.Author.Tests.{le-leb, lt-leb}
-use Rattle.laws.specs.Choice.{if◌then◌else◌, ◌≤?◌}
+use Rattle.laws.specs.Choice.{when◌then◌else◌, ◌≤?◌}
 use Rattle.laws.specs.Overwrite.{over}
 use Rattle.laws.proofs.Cases.{if_eq, if_ne}
 use Rattle.laws.proofs.Lists.{part_tail}
@@ -60,7 +60,7 @@ module _ (rec : List ℕ) (room : ℕ) (c : Checked) (e : c ≡ checked rec) whe
 
     -- a list that is too short
     pub listed_short : room < c.events → record { refusal = 25; events = 0; start = 0 } ≡ listed rec room
-    unfolding listed list_refusal if◌then◌else◌
+    unfolding listed list_refusal when◌then◌else◌
     listed_short k =
         let f : record_refusal rec before (25 unless (length (events_of rec) ≤? room)) ≡ 25 =
         next_given (record_refusal rec) _ none ∙ failing 25 _ (lt-leb (length (events_of rec)) room (omega (arith, count_is))) in

@@ -2,7 +2,7 @@
 -- `proofs/Promises` proves it from what is promised of the executor and of records. Each clause has a mark,
 -- as in `promises`: (theorem), or (by definition).
 use Rattle.std.specs.Prelude.{ℕ, ◌≤◌, ◌≡◌, ◌≢◌, false, List, [], ◌∷◌, ◌++◌, length, take, drop}
-use Rattle.laws.specs.Choice.{if◌then◌else◌, ◌=?◌, ◌≤?◌}
+use Rattle.laws.specs.Choice.{when◌then◌else◌, ◌=?◌, ◌≤?◌}
 use Rattle.session.specs.Answers.{is_refused}
 use Rattle.handset.specs.Open.{open_refusal}
 use Rattle.journal.specs.Journal.{Answered, journal_of}
@@ -69,8 +69,8 @@ pub record PlaybackPromises (im : List ℕ) : Type 0 where
   -- (by definition) R45: the record's number first, then 25 for a list that is too short, then Open's
   pub order : (extent columns lines : ℕ) (rec : List ℕ) (room : ℕ)
       → play_refusal im extent columns lines rec room
-      ≡ (if record_refusal rec =? 0
-      then (if length (events_of rec) ≤? room then open_refusal im extent columns lines else 25)
+      ≡ (when record_refusal rec =? 0
+      then (when length (events_of rec) ≤? room then open_refusal im extent columns lines else 25)
       else record_refusal rec)
   -- (by definition) a refusal leaves sheet and list
   pub refused : (sheet : List ℕ) (columns lines : ℕ) (rec list : List ℕ)

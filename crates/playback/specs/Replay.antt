@@ -1,7 +1,7 @@
 -- 02, No. 2: playing a record. It is Open, and then the record's events one after another (`journal`
 -- `played`), with their answers by their numbers.
 use Rattle.std.specs.Prelude.{ℕ, List, [], ◌∷◌, length}
-use Rattle.laws.specs.Choice.{if◌then◌else◌, ◌=?◌, ◌≤?◌}
+use Rattle.laws.specs.Choice.{when◌then◌else◌, ◌=?◌, ◌≤?◌}
 use Rattle.laws.specs.Overwrite.{over}
 use Rattle.session.specs.Answers.{answer_number}
 use Rattle.session.specs.Session.{closed}
@@ -49,7 +49,7 @@ refused_replay k = record { refusal = k; events = 0; session = closed }
 -- the number of events and the session after them
 unfoldable pub play_answer : List ℕ → List ℕ → ℕ → ℕ → List ℕ → ℕ → Replayed
 play_answer im sheet columns lines rec room =
-    if play_refusal im (length sheet) columns lines rec room =? 0
+    when play_refusal im (length sheet) columns lines rec room =? 0
     then record {
       refusal = 0;
       events = length (events_of rec);
@@ -60,14 +60,14 @@ play_answer im sheet columns lines rec room =
 -- the sheet afterwards; a refusal leaves it
 unfoldable pub play_sheet : List ℕ → List ℕ → ℕ → ℕ → List ℕ → ℕ → List ℕ
 play_sheet im sheet columns lines rec room =
-    if play_refusal im (length sheet) columns lines rec room =? 0
+    when play_refusal im (length sheet) columns lines rec room =? 0
     then (replayed im sheet columns lines rec).sheet
     else sheet
 
 -- the lent list afterwards: it begins with the answers' numbers, and goes on as it was; a refusal leaves it
 unfoldable pub play_list : List ℕ → List ℕ → ℕ → ℕ → List ℕ → List ℕ → List ℕ
 play_list im sheet columns lines rec list =
-    if play_refusal im (length sheet) columns lines rec (length list) =? 0
+    when play_refusal im (length sheet) columns lines rec (length list) =? 0
     then over list 0 (replay_numbers im sheet columns lines rec)
     else list
 
@@ -77,6 +77,6 @@ play_list im sheet columns lines rec list =
 unfoldable pub listed : List ℕ → ℕ → Checked
 listed rec room = record {
   refusal = list_refusal rec room;
-  events = if list_refusal rec room =? 0 then length (events_of rec) else 0;
-  start = if list_refusal rec room =? 0 then start_of rec else 0;
+  events = when list_refusal rec room =? 0 then length (events_of rec) else 0;
+  start = when list_refusal rec room =? 0 then start_of rec else 0;
 }

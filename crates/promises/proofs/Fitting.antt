@@ -9,7 +9,7 @@ use native.Mathlib.Numerals.{add-one}
 use lib.ListN.{length, set, take, length-set}
 use lib.Seq.{take-suc, take-suc-set}
 use borrow.Author.Tests.{eqb-true, eqb-false, ltb-true, ltb-false, leb-true, eq-eqb, lt-ltb, le-leb}
-use Rattle.laws.specs.Choice.{if◌then◌else◌, ◌<?◌}
+use Rattle.laws.specs.Choice.{when◌then◌else◌, ◌<?◌}
 use Rattle.laws.proofs.Cases.{if_ind, and_i, and_l, and_r}
 use Rattle.field.specs.declared.work.Work.{Work}
 use Rattle.cmf.specs.Limits.{prolog_bytes, deepest_table}
@@ -153,7 +153,7 @@ mode_same im s z (mode.Password n) a b d h = rw (a, d) h
 
 module _ (im : List ℕ) (c l : ℕ) where
   -- a choice of two steps
-  pub by_keeps : (t : Bool) {x y : Stepped} → (t ≡ true → Keeps im c l x) → (t ≡ false → Keeps im c l y) → Keeps im c l (if t then x else y)
+  pub by_keeps : (t : Bool) {x y : Stepped} → (t ≡ true → Keeps im c l x) → (t ≡ false → Keeps im c l y) → Keeps im c l (when t then x else y)
   by_keeps t f g = if_ind (Keeps im c l) t f g
 
   module _ (s : Session) (g : Good im c l s) where

@@ -7,7 +7,7 @@ use mathlib.Core.List.{List, [], ◌∷◌, Memᴰ}
 use native.Mathlib.Omega.{arith}
 use lib.ListN.{length, take}
 use borrow.Author.Tests.{eqb-true, ltb-true}
-use Rattle.laws.specs.Choice.{if◌then◌else◌, ◌=?◌, ◌<?◌}
+use Rattle.laws.specs.Choice.{when◌then◌else◌, ◌=?◌, ◌<?◌}
 use Rattle.laws.proofs.Cases.{if_ind, and_l, and_r}
 use Rattle.field.specs.Sheet.{own_bytes}
 use Rattle.field.specs.declared.kind.ImagePlace.{ImagePlace}
@@ -84,8 +84,8 @@ nowhere im s (mode.Password k) n = refl
 -- ---- what a picture reads
 
 -- two choices by one test
-by_both : {A : Type 0} (t : Bool) {x y z w : A} → (t ≡ true → x ≡ z) → (t ≡ false → y ≡ w) → (if t then x else y) ≡ (if t then z else w)
-unfolding if◌then◌else◌
+by_both : {A : Type 0} (t : Bool) {x y z w : A} → (t ≡ true → x ≡ z) → (t ≡ false → y ≡ w) → (when t then x else y) ≡ (when t then z else w)
+unfolding when◌then◌else◌
 by_both true f g = f refl
 by_both false f g = g refl
 

@@ -8,7 +8,7 @@ use mathlib.Core.List.{List, [], ◌∷◌, map, Memᴰ}
 use native.Mathlib.Omega.{arith}
 use lib.ListN.{length}
 use borrow.Author.Tests.{eqb-true, eqb-false, lt-ltb, ltb-true}
-use Rattle.laws.specs.Choice.{if◌then◌else◌, ◌and◌, ◌=?◌, ◌<?◌, ◌≤?◌}
+use Rattle.laws.specs.Choice.{when◌then◌else◌, ◌and◌, ◌=?◌, ◌<?◌, ◌≤?◌}
 use Rattle.laws.specs.Parts.{part_at}
 use Rattle.laws.proofs.Cases.{by_test, if_true, if_false, if_eq, if_ne, and_i, and_l, and_r}
 use Rattle.field.specs.Values.{bytes_of}
@@ -62,23 +62,23 @@ use Rattle.promises.proofs.Starred.{starred_as_listed}
 -- ---- the order of refusals, as choices
 
 -- a test after a number
-one_test : (r a : ℕ) (t : Bool) → r before (a unless t) ≡ (if r =? 0 then (if t then 0 else a) else r)
+one_test : (r a : ℕ) (t : Bool) → r before (a unless t) ≡ (when r =? 0 then (when t then 0 else a) else r)
 unfolding ◌before◌ ◌unless◌
 one_test r a t = refl
 
 -- and another after both
-two_tests : (r a b : ℕ) (t u : Bool) → (a ≡ 0 → ⊥) → (r before (a unless t)) before (b unless u) ≡ (if r =? 0 then (if t then (if u then 0 else b) else a) else r)
+two_tests : (r a b : ℕ) (t u : Bool) → (a ≡ 0 → ⊥) → (r before (a unless t)) before (b unless u) ≡ (when r =? 0 then (when t then (when u then 0 else b) else a) else r)
 unfolding ◌unless◌
 two_tests r a b t u h =
     by_test (r =? 0)
     (λ z. let e = eqb-true r 0 z in
-    rw (if_true {t = r =? 0} (if t then (if u then 0 else b) else a) r z, next_given r (if t then 0 else a) e)
-    (by_test t (λ y. rw (if_true {t = t} (if u then 0 else b) a y, if_true {t = t} 0 a y) (next_given 0 _ refl))
-    (λ y. rw (if_false {t = t} (if u then 0 else b) a y, if_false {t = t} 0 a y) (first_given a _ h))))
+    rw (if_true {t = r =? 0} (when t then (when u then 0 else b) else a) r z, next_given r (when t then 0 else a) e)
+    (by_test t (λ y. rw (if_true {t = t} (when u then 0 else b) a y, if_true {t = t} 0 a y) (next_given 0 _ refl))
+    (λ y. rw (if_false {t = t} (when u then 0 else b) a y, if_false {t = t} 0 a y) (first_given a _ h))))
     (λ z. let e = eqb-false r 0 z in
-    rw (if_false {t = r =? 0} (if t then (if u then 0 else b) else a) r z, first_given r (if t then 0 else a) e) (first_given r _ e))
+    rw (if_false {t = r =? 0} (when t then (when u then 0 else b) else a) r z, first_given r (when t then 0 else a) e) (first_given r _ e))
 
-open_order : (im : List ℕ) (extent columns lines : ℕ) → open_refusal im extent columns lines ≡ (if shape_fits columns lines then refusal_of im extent else 1)
+open_order : (im : List ℕ) (extent columns lines : ℕ) → open_refusal im extent columns lines ≡ (when shape_fits columns lines then refusal_of im extent else 1)
 unfolding open_refusal
 open_order im extent columns lines =
     by_test (shape_fits columns lines)
@@ -87,20 +87,20 @@ open_order im extent columns lines =
 
 event_order : (im : List ℕ) (extent : ℕ) (s : Session) (e : ℕ)
     → event_refusal im extent s e
-    ≡ (if refusal_of im extent =? 0 then (if session_fits im s then (if e ≤? second then 0 else 13) else 12) else refusal_of im extent)
+    ≡ (when refusal_of im extent =? 0 then (when session_fits im s then (when e ≤? second then 0 else 13) else 12) else refusal_of im extent)
 unfolding event_refusal session_refusal
 event_order im extent s e = two_tests (refusal_of im extent) 12 13 (session_fits im s) (e ≤? second) (λ z. omega arith)
 
 draw_order : (im : List ℕ) (extent : ℕ) (s : Session) (n : ℕ)
     → draw_refusal im extent s n
-    ≡ (if refusal_of im extent =? 0 then (if session_fits im s then (if n =? s.columns * s.lines then 0 else 1) else 12) else refusal_of im extent)
+    ≡ (when refusal_of im extent =? 0 then (when session_fits im s then (when n =? s.columns * s.lines then 0 else 1) else 12) else refusal_of im extent)
 unfolding draw_refusal session_refusal
 draw_order im extent s n = two_tests (refusal_of im extent) 12 1 (session_fits im s) (n =? s.columns * s.lines) (λ z. omega arith)
 
 text_order : (im : List ℕ) (extent place item : ℕ)
     → text_refusal im extent place item
-    ≡ (if refusal_of im extent =? 0
-    then (if is_in place (field_places im) and (item <? items_in (field_at im place).kind) then 0 else 14)
+    ≡ (when refusal_of im extent =? 0
+    then (when is_in place (field_places im) and (item <? items_in (field_at im place).kind) then 0 else 14)
     else refusal_of im extent)
 unfolding text_refusal
 text_order im extent place item = one_test (refusal_of im extent) 14 _

@@ -7,7 +7,7 @@ use mathlib.Core.List.{List, [], ◌∷◌}
 use native.Mathlib.Omega.{arith}
 use lib.ListN.{length, set, take, length-take}
 use borrow.Author.Tests.{eqb-true, leb-true, ltb-true, ltb-false}
-use Rattle.laws.specs.Choice.{if◌then◌else◌, ◌=?◌}
+use Rattle.laws.specs.Choice.{when◌then◌else◌, ◌=?◌}
 use Rattle.laws.specs.Bytes.{byte_at}
 use Rattle.laws.proofs.Cases.{if_ind, if_true, if_false, if_eq, by_test, and_l, and_r}
 use Rattle.field.specs.declared.kind.ImagePlace.{ImagePlace}
@@ -73,7 +73,7 @@ module _ (im : List ℕ) (s : Session) (e : ℕ) where
     flash : is_flash r.answer ≡ true → Unchanged im s e r.session
 
   -- a choice of two results
-  by_kept : (t : Bool) {x y : Stepped} → (t ≡ true → Kept x) → (t ≡ false → Kept y) → Kept (if t then x else y)
+  by_kept : (t : Bool) {x y : Stepped} → (t ≡ true → Kept x) → (t ≡ false → Kept y) → Kept (when t then x else y)
   by_kept t f g = if_ind Kept t f g
 
   -- a woken session with another answer than a flash

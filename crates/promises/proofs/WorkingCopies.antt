@@ -7,7 +7,7 @@ use mathlib.Core.List.{List}
 use native.Mathlib.Omega.{arith}
 use lib.ListN.{length, length-set}
 use borrow.Author.Tests.{leb-true, lt-ltb}
-use Rattle.laws.specs.Choice.{if◌then◌else◌, ◌=?◌, ◌≤?◌}
+use Rattle.laws.specs.Choice.{when◌then◌else◌, ◌=?◌, ◌≤?◌}
 use Rattle.laws.proofs.Cases.{if_ind, if_min, and_i, and_l, and_r}
 use Rattle.laws.proofs.Overwriting.{length_fit}
 use Rattle.field.specs.Formats.{format_of, digits_in, bits_in}
@@ -43,7 +43,7 @@ record Digited (f : Format) : Type 0 where
   digit : 1 ≤ digits_in f
 
 -- a choice of formats, and a format that states its digits
-by_digited : (t : Bool) {x y : Format} → (t ≡ true → Digited x) → (t ≡ false → Digited y) → Digited (if t then x else y)
+by_digited : (t : Bool) {x y : Format} → (t ≡ true → Digited x) → (t ≡ false → Digited y) → Digited (when t then x else y)
 by_digited t f g = if_ind Digited t f g
 
 has_digits : (f : Format) → 1 ≤ f.digits → Digited f
@@ -65,7 +65,7 @@ record Celled (k : Kind) : Type 0 where
   cell : kind_fits k ≡ true → 0 < (profile_of k).cells
 
 -- a choice of kinds, and each kind
-by_celled : (t : Bool) {x y : Kind} → (t ≡ true → Celled x) → (t ≡ false → Celled y) → Celled (if t then x else y)
+by_celled : (t : Bool) {x y : Kind} → (t ≡ true → Celled x) → (t ≡ false → Celled y) → Celled (when t then x else y)
 by_celled t f g = if_ind Celled t f g
 
 integer_celled : (code : ℕ) → Celled (Integer (format_of code))
@@ -108,8 +108,8 @@ pub record Ready (f : Field) : Type 0 where
   pub default : in_range f.kind (number_of f.default) ≡ true
 
 -- settings are tested where a component reads without fault
-no_fault : (t : Bool) → ◌≡◌ {A = ℕ} (if t then 0 else 9) 0 → t ≡ true
-unfolding if◌then◌else◌
+no_fault : (t : Bool) → ◌≡◌ {A = ℕ} (when t then 0 else 9) 0 → t ≡ true
+unfolding when◌then◌else◌
 no_fault true h = refl
 no_fault false h = absurd (omega arith)
 
@@ -120,7 +120,7 @@ settings_ready im p code h = record { cell = (kind_celled im p code).cell (and_l
 
 -- a trigger is one, whatever its settings
 trigger_ready : (im : List ℕ) (p : ℕ) → Ready (field_by im p 0x17)
-unfolding kind_at kind_fits if◌then◌else◌
+unfolding kind_at kind_fits when◌then◌else◌
 trigger_ready im p = record { cell = trigger_celled.cell refl; default = range_of_trigger _ }
 
 -- so a component that reads without fault holds one: what is no field of ours counts as a trigger
@@ -167,7 +167,7 @@ pub record Long (n : ℕ) (r : Pressed) : Type 0 where
   pub long : length r.work.cells ≡ n
 
 -- a choice of results; nothing changes, another cell is chosen, the chosen one is set, or ENTER goes to a part
-by_long : {n : ℕ} (t : Bool) {x y : Pressed} → (t ≡ true → Long n x) → (t ≡ false → Long n y) → Long n (if t then x else y)
+by_long : {n : ℕ} (t : Bool) {x y : Pressed} → (t ≡ true → Long n x) → (t ≡ false → Long n y) → Long n (when t then x else y)
 by_long {n} t f g = if_ind (Long n) t f g
 
 same_long : (w : Work) (o : Outcome) → Long (length w.cells) (record { work = w; outcome = o })

@@ -1,7 +1,7 @@
 -- Demand 1: refusals. That every call ends with an answer, whatever it is given, needs no clause: its
 -- function has a contract and asks for nothing. For the marks see `Promises`.
 use Rattle.std.specs.Prelude.{ℕ, ◌*◌, ◌≡◌, ◌≢◌, ◌↔◌, false, List, [], length}
-use Rattle.laws.specs.Choice.{if◌then◌else◌, ◌and◌, ◌=?◌, ◌<?◌, ◌≤?◌}
+use Rattle.laws.specs.Choice.{when◌then◌else◌, ◌and◌, ◌=?◌, ◌<?◌, ◌≤?◌}
 use Rattle.cmf.specs.Places.{field_places, is_in}
 use Rattle.acceptance.specs.Check.{refusal_of}
 use Rattle.acceptance.specs.Faults.{Refused}
@@ -27,24 +27,24 @@ pub record Numbers (im : List ℕ) : Type 0 where
   pub of_image : (extent k : ℕ) → ((refusal_of im extent ≡ k) × (k ≢ 0)) ↔ Refused im extent k
   -- (by definition) Open: 1 first, then 2 to 11
   pub of_open : (extent columns lines : ℕ)
-      → open_refusal im extent columns lines ≡ (if shape_fits columns lines then refusal_of im extent else 1)
+      → open_refusal im extent columns lines ≡ (when shape_fits columns lines then refusal_of im extent else 1)
   -- (by definition) Event: 2 to 11, then 12, then 13
   pub of_event : (extent : ℕ) (s : Session) (e : ℕ)
       → event_refusal im extent s e
-      ≡ (if refusal_of im extent =? 0
-      then (if session_fits im s then (if e ≤? second then 0 else 13) else 12)
+      ≡ (when refusal_of im extent =? 0
+      then (when session_fits im s then (when e ≤? second then 0 else 13) else 12)
       else refusal_of im extent)
   -- (by definition) Draw: 2 to 11, then 12, and 1 last
   pub of_draw : (extent : ℕ) (s : Session) (n : ℕ)
       → draw_refusal im extent s n
-      ≡ (if refusal_of im extent =? 0
-      then (if session_fits im s then (if n =? s.columns * s.lines then 0 else 1) else 12)
+      ≡ (when refusal_of im extent =? 0
+      then (when session_fits im s then (when n =? s.columns * s.lines then 0 else 1) else 12)
       else refusal_of im extent)
   -- (by definition) Option text: 2 to 11, then 14
   pub of_text : (extent place item : ℕ)
       → text_refusal im extent place item
-      ≡ (if refusal_of im extent =? 0
-      then (if is_in place (field_places im) and (item <? items_in (field_at im place).kind) then 0 else 14)
+      ≡ (when refusal_of im extent =? 0
+      then (when is_in place (field_places im) and (item <? items_in (field_at im place).kind) then 0 else 14)
       else refusal_of im extent)
 
 -- a refused Open

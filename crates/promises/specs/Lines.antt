@@ -3,7 +3,7 @@
 -- a session that fits, in a well-formed image, they say the same. Every clause is a theorem.
 use Rattle.std.specs.Prelude.{ℕ, ◌≡◌, true, take}
 use mathlib.Core.List.{List, [], ◌∷◌, ◌++◌, Memᴰ}
-use Rattle.laws.specs.Choice.{if◌then◌else◌, ◌=?◌}
+use Rattle.laws.specs.Choice.{when◌then◌else◌, ◌=?◌}
 use Rattle.cmf.specs.Layouts.{Component, code, edit_bit, last_bit}
 use Rattle.cmf.specs.Grammar.{is_last, has_submenu, has_password, next_line, submenu_table, password_at}
 use Rattle.cmf.specs.Grammar.{Password}
@@ -37,7 +37,7 @@ pub record ComponentAgrees (im : List ℕ) (c : ℕ) : Type 0 where
   -- 7.5: whether it is the last of its line
   pub last : (component_at im c).last ≡ (last_bit im c =? 1)
   -- 7.5, 01, Fields: whether it is editable: by its bit, and a trigger always
-  pub editable : (component_at im c).editable ≡ (if code im c =? 0x17 then true else edit_bit im c =? 1)
+  pub editable : (component_at im c).editable ≡ (when code im c =? 0x17 then true else edit_bit im c =? 1)
 
 -- a line: its head, and each of its components
 pub record LineAgrees (im : List ℕ) (p : ℕ) : Type 0 where

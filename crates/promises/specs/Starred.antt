@@ -1,7 +1,7 @@
 -- 01's starred cases, one statement over one list, in 01's order: what comes of Open and of each event, with
 -- the session and the sheet that the call before left. What is listed was worked out by hand from 01.
 use Rattle.std.specs.Prelude.{ℕ, ◌+◌, ◌≡◌, List, [], ◌∷◌, map, length}
-use Rattle.laws.specs.Choice.{if◌then◌else◌, ◌=?◌}
+use Rattle.laws.specs.Choice.{when◌then◌else◌, ◌=?◌}
 use Rattle.session.specs.Session.{closed}
 use Rattle.session.specs.Events.{up, down, left, right, enter, second}
 use Rattle.session.specs.Answers.{answer_number}
@@ -38,7 +38,7 @@ seen_in im t es =
     (played im t es).session.here.table.0 (played im t es).session.here.cursor
 
 abbrev pub seen_by : Opened → List ℕ → Seen → Seen
-seen_by o sheet x = if o.refusal =? 0 then x else Seen.refused o.refusal o.session sheet
+seen_by o sheet x = when o.refusal =? 0 then x else Seen.refused o.refusal o.session sheet
 
 -- the sitting of a case
 abbrev pub runs : Case → Seen

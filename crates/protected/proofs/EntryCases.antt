@@ -2,7 +2,7 @@
 use Prim.Native.Nat.{ℕ}
 use mathlib.Core.Path.{◌≡◌, refl}
 use mathlib.Core.List.{List, [], ◌∷◌, map}
-use Rattle.laws.specs.Choice.{if◌then◌else◌}
+use Rattle.laws.specs.Choice.{when◌then◌else◌}
 use Rattle.session.specs.Events.{up, left, right, enter, second}
 use Rattle.session.specs.declared.answer.Answer.TheVariants as answer
 use Rattle.journal.specs.Journal.{Answered, answered}
@@ -47,5 +47,5 @@ cases =
 
 -- every case comes out as listed
 pub keys_told : map (λ (c : Case). entry_keys c.events) cases ≡ map (λ (c : Case). c.keys) cases
-unfolding cases entry_more entry_from if◌then◌else◌
+unfolding cases entry_more entry_from when◌then◌else◌
 keys_told = refl

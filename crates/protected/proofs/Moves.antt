@@ -8,7 +8,7 @@ use native.Mathlib.Omega.{arith}
 use native.Mathlib.Numerals.{add-one}
 use lib.ListN.{length, set, take, length-set}
 use borrow.Author.Tests.{eqb-true, leb-true, ltb-true, ltb-false}
-use Rattle.laws.specs.Choice.{if◌then◌else◌, ◌=?◌, ◌≤?◌}
+use Rattle.laws.specs.Choice.{when◌then◌else◌, ◌=?◌, ◌≤?◌}
 use Rattle.laws.specs.Bytes.{byte_at}
 use Rattle.laws.proofs.Cases.{if_ind, if_true, if_false, if_eq, if_ne, if_le, if_gt, and_l, and_r}
 use Rattle.field.specs.declared.kind.ImagePlace.{ImagePlace}
@@ -118,7 +118,7 @@ pub data Move (im : List ℕ) (s : Session) (e : ℕ) (r : Stepped) : Type 0 whe
 
 module _ (im : List ℕ) (s : Session) (e : ℕ) where
   -- a choice of two results
-  by_move : (t : Bool) {x y : Stepped} → (t ≡ true → Move im s e x) → (t ≡ false → Move im s e y) → Move im s e (if t then x else y)
+  by_move : (t : Bool) {x y : Stepped} → (t ≡ true → Move im s e x) → (t ≡ false → Move im s e y) → Move im s e (when t then x else y)
   by_move t f g = if_ind (Move im s e) t f g
 
   -- a session with the same levels, or fewer

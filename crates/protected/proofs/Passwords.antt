@@ -7,7 +7,7 @@ use native.Mathlib.Omega.{arith}
 use lib.ListN.{length, get_or, take, drop, length-drop}
 use lib.Seq.{take-suc, get_or-drop}
 use borrow.Author.Tests.{eqb-true, eqb-false, leb-true}
-use Rattle.laws.specs.Choice.{if◌then◌else◌, ◌=?◌}
+use Rattle.laws.specs.Choice.{when◌then◌else◌, ◌=?◌}
 use Rattle.laws.specs.Bytes.{byte_at, room}
 use Rattle.laws.specs.Parts.{part_at}
 use Rattle.laws.proofs.Cases.{if_ind, if_true, if_eq, by_test, and_l, and_r}
@@ -73,7 +73,7 @@ module _ (im : List ℕ) where
             by_test (tag_bit 8 tag =? 1) (λ h. h)
             (λ h. let z : tag_bit 8 tag ≡ 0 = omega (arith, eqb-false (tag_bit 8 tag) 1 h) in absurd (omega (arith, rw z at e)))
 
-    by_guarded : (t : Bool) {x y : Head} → (t ≡ true → Guarded im x) → (t ≡ false → Guarded im y) → Guarded im (if t then x else y)
+    by_guarded : (t : Bool) {x y : Head} → (t ≡ true → Guarded im x) → (t ≡ false → Guarded im y) → Guarded im (when t then x else y)
     by_guarded t f g = if_ind (Guarded im) t f g
 
     -- so it is at every place

@@ -2,7 +2,7 @@
 -- is told from the events and their answers alone, and which line it was from the level that was shown
 -- meanwhile. That a delay ends an entry is not said here: it is a rule of the steps.
 use Rattle.std.specs.Prelude.{ℕ, ◌+◌, ◌≤◌, ◌<◌, ◌≡◌, Bool, true, false, List, [], ◌∷◌, ◌++◌, map, get_or}
-use Rattle.laws.specs.Choice.{if◌then◌else◌, ◌=?◌, ◌≤?◌}
+use Rattle.laws.specs.Choice.{when◌then◌else◌, ◌=?◌, ◌≤?◌}
 use Rattle.cmf.specs.Readers.{text_bytes}
 use Rattle.session.specs.Answers.{is_flash}
 use Rattle.session.specs.Session.{no_level}
@@ -28,10 +28,10 @@ digit_more (k ∷ ks) d = k ∷ (ks ++ (d ∷ []))
 -- keys those that flashed are left out, RIGHT begins anew, and any other ends the entry
 unfoldable pub entry_more : List ℕ → Answered → List ℕ
 entry_more ks x =
-    if ignored x then ks
-    else if x.event ≤? last_digit_key then (if is_flash x.answer then [] else digit_more ks x.event)
-    else if is_flash x.answer then ks
-    else if x.event =? right then right ∷ []
+    when ignored x then ks
+    else when x.event ≤? last_digit_key then (when is_flash x.answer then [] else digit_more ks x.event)
+    else when is_flash x.answer then ks
+    else when x.event =? right then right ∷ []
     else []
 
 -- events one after another, oldest first; ks were the keys before them

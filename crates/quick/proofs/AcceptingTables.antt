@@ -5,7 +5,7 @@ use mathlib.Core.Bool.{true}
 use mathlib.Core.List.{List}
 use native.Mathlib.Omega.{arith}
 use lib.ListN.{length}
-use Rattle.laws.specs.Choice.{if◌then◌else◌}
+use Rattle.laws.specs.Choice.{when◌then◌else◌}
 use Rattle.laws.proofs.Cases.{if_true, if_false, if_eq}
 use Rattle.cmf.specs.Limits.{most_fields, most_lines_of_table, longest_sheet, deepest_table, prolog_bytes}
 use Rattle.cmf.specs.Readers.{even_from, title_at, head_at}
@@ -82,7 +82,7 @@ module _ (im : List ℕ) (extent : ℕ) where
 
     pub deep_line :
         (below : ℕ) {r : Tally} {new : List ℕ} → has_submenu im p ≡ 1 → Reaches extent (table below (submenu_table im p)) b r mid new → Reaches extent (line below n before p) w (returned b r) old new
-    unfolding on_submenu if◌then◌else◌
+    unfolding on_submenu when◌then◌else◌
     deep_line below {r} {new} z d = record {
       reach = λ s h t.
           let u = body_far s h t (on_table im extent most_fields below) in

@@ -6,7 +6,7 @@ use mathlib.Core.List.{List, [], ◌∷◌}
 use native.Mathlib.Omega.{arith}
 use native.Mathlib.Nat.{add_assoc}
 use lib.ListN.{length}
-use Rattle.laws.specs.Choice.{if◌then◌else◌}
+use Rattle.laws.specs.Choice.{when◌then◌else◌}
 use Rattle.laws.specs.Bytes.{byte_at, word_at}
 use Rattle.field.specs.Formats.{format_of, numeral_of}
 use Rattle.field.specs.Calendar.{month_end}
@@ -60,7 +60,7 @@ module _ (im : List ℕ) (at end : ℕ) (inside : end ≤ length im) where
   pub time_long_is :
       byte_at im at % 32 ≡ 0x0f → end ≡ at + 9 → byte_at im (at + 6) ≤ 23 → byte_at im (at + 7) ≤ 59 → byte_at im (at + 8) ≤ 59 →
       Component im at end (time_long_at im at ∷ [])
-  unfolding profile_of if◌then◌else◌
+  unfolding profile_of when◌then◌else◌
   time_long_is k e h m s =
       let n = simp add_assoc at (three_bytes (at + 6) im) in
       Component.time_long k (record { ends = e; inside = inside })
@@ -68,7 +68,7 @@ module _ (im : List ℕ) (at end : ℕ) (inside : end ≤ length im) where
 
   pub time_short_is :
       byte_at im at % 32 ≡ 0x10 → end ≡ at + 8 → byte_at im (at + 6) ≤ 23 → byte_at im (at + 7) ≤ 59 → Component im at end (time_short_at im at ∷ [])
-  unfolding profile_of if◌then◌else◌ word_at
+  unfolding profile_of when◌then◌else◌ word_at
   time_short_is k e h m =
       let n = simp add_assoc at (two_bytes (at + 6) im) in
       Component.time_short k (record { ends = e; inside = inside })
@@ -77,7 +77,7 @@ module _ (im : List ℕ) (at end : ℕ) (inside : end ≤ length im) where
   pub date_long_is :
       byte_at im at % 32 ≡ 0x11 → end ≡ at + 10 → 1 ≤ byte_at im (at + 7) → byte_at im (at + 7) ≤ 12 → 1 ≤ byte_at im (at + 6) →
       byte_at im (at + 6) ≤ month_end (word_at im (at + 8)) (byte_at im (at + 7)) → word_at im (at + 8) ≤ 9999 → Component im at end (date_long_at im at ∷ [])
-  unfolding profile_of if◌then◌else◌ word_at
+  unfolding profile_of when◌then◌else◌ word_at
   date_long_is k e c d a b y =
       let v = number_of (value_at (at + 6) 4 im) in
       let n = simp add_assoc at (four_bytes (at + 6) im) in
@@ -93,7 +93,7 @@ module _ (im : List ℕ) (at end : ℕ) (inside : end ≤ length im) where
   pub date_short_is :
       byte_at im at % 32 ≡ 0x12 → end ≡ at + 9 → 1 ≤ byte_at im (at + 7) → byte_at im (at + 7) ≤ 12 → 1 ≤ byte_at im (at + 6) →
       byte_at im (at + 6) ≤ month_end (byte_at im (at + 8)) (byte_at im (at + 7)) → byte_at im (at + 8) ≤ 99 → Component im at end (date_short_at im at ∷ [])
-  unfolding profile_of if◌then◌else◌
+  unfolding profile_of when◌then◌else◌
   date_short_is k e c d a b y =
       let v = number_of (value_at (at + 6) 3 im) in
       let n = simp add_assoc at (three_bytes (at + 6) im) in

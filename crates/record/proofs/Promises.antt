@@ -7,7 +7,7 @@ use native.Mathlib.Omega.{arith}
 use lib.ListN.{length, take, drop}
 use lib.Seq.{take_at}
 use borrow.Author.Tests.{leb-true}
-use Rattle.laws.specs.Choice.{if◌then◌else◌, ◌≤?◌}
+use Rattle.laws.specs.Choice.{when◌then◌else◌, ◌≤?◌}
 use Rattle.laws.proofs.Cases.{if_eq, if_ne, and_l, and_r}
 use Rattle.laws.proofs.Frame.{put_fits}
 use Rattle.session.specs.Events.{second}
@@ -99,11 +99,11 @@ module _ (es room : List ℕ) where
 -- the refusals one by one
 in_order : (es : List ℕ) (room : ℕ)
     → recording_refusal es room
-    ≡ (if length es ≤? most_number then (if are_events es then (if length (record_of es) ≤? room then 0 else 25) else 13) else 16)
+    ≡ (when length es ≤? most_number then (when are_events es then (when length (record_of es) ≤? room then 0 else 25) else 13) else 16)
 unfolding recording_refusal ◌unless◌
 in_order es room =
     tested_before 16 (length es ≤? most_number) _ (λ z. omega arith)
-    ∙ ap (λ (k : ℕ). if length es ≤? most_number then k else 16) (tested_before 13 (are_events es) _ (λ z. omega arith))
+    ∙ ap (λ (k : ℕ). when length es ≤? most_number then k else 16) (tested_before 13 (are_events es) _ (λ z. omega arith))
 
 -- ---- all together
 

@@ -7,7 +7,7 @@ use native.Mathlib.Numerals.{add-one}
 use lib.ListN.{length, take, drop, get_or, length-drop}
 use lib.Seq.{drop-cons, drop_at, get_or-drop, length-take-le}
 use borrow.Author.Tests.{ltb-true, ltb-false, leb-false, eqb-false}
-use Rattle.laws.specs.Choice.{if◌then◌else◌, ◌≤?◌}
+use Rattle.laws.specs.Choice.{when◌then◌else◌, ◌≤?◌}
 use Rattle.laws.specs.Bytes.{byte_at}
 use Rattle.laws.specs.Parts.{put_at}
 use Rattle.laws.proofs.Cases.{if_ind, if_lt, if_ge, if_le, if_gt, if_ne}
@@ -105,10 +105,10 @@ module _ (s : List ℕ) (at : ℕ) where
   reads_one h a = if_gt (length s) at _ _ h ∙ if_lt (byte_at s at) 128 _ _ a
 
   module _ (a : 128 < byte_at s at) where
-    goes_on_lem : number_at s at ≡ (if length s ≤? at then Broken else second_at s at)
+    goes_on_lem : number_at s at ≡ (when length s ≤? at then Broken else second_at s at)
     unfolding number_at
     goes_on_lem =
-        ap (λ (r : Read). if length s ≤? at then Broken else r) (if_ge (byte_at s at) 128 _ _ (omega arith) ∙ if_ne (byte_at s at) 128 _ _ (λ k. omega arith))
+        ap (λ (r : Read). when length s ≤? at then Broken else r) (if_ge (byte_at s at) 128 _ _ (omega arith) ∙ if_ne (byte_at s at) 128 _ _ (λ k. omega arith))
 
     reads_two : at + 1 < length s → byte_at s (at + 1) < 128
         → number_at s at ≡ Number ((byte_at s at - 128) * 128 + byte_at s (at + 1)) (at + 2)

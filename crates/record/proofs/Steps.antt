@@ -7,7 +7,7 @@ use native.Mathlib.Omega.{arith}
 use lib.ListN.{length, drop, get_or}
 use lib.Seq.{drop-cons, drop-length}
 use borrow.Author.Tests.{eq-eqb, ne_eqb, eqb-true, eqb-false, le-leb, lt-leb}
-use Rattle.laws.specs.Choice.{if◌then◌else◌, ◌and◌, ◌=?◌, ◌≤?◌}
+use Rattle.laws.specs.Choice.{when◌then◌else◌, ◌and◌, ◌=?◌, ◌≤?◌}
 use Rattle.laws.proofs.Cases.{by_test, if_eq, if_ne, and_l, and_true, and_false}
 use Rattle.session.specs.Events.{second}
 use Rattle.handset.specs.Refusals.{◌unless◌}
@@ -167,7 +167,7 @@ and_on false b c = refl
 
 -- the refusal number, the number of events as the head states it, and the place of the first
 abbrev answer : ℕ → ℕ × ℕ → Checked
-answer k p = record { refusal = k; events = if k =? 0 then p.0 else 0; start = if k =? 0 then p.1 else 0 }
+answer k p = record { refusal = k; events = when k =? 0 then p.0 else 0; start = when k =? 0 then p.1 else 0 }
 
 module _ (s : List ℕ) where
   -- the number of events that the head states
@@ -206,7 +206,7 @@ module _ (s : List ℕ) where
       ∙ head_both answer 16 17 (λ n at. events_refusal n s at) (0, 0) (0, 0) (λ n at. (n, at)) s
 
   whole : checked s ≡ goes_on refused_record (λ n at. events_checked n s at) (head_of s)
-  unfolding if◌then◌else◌
+  unfolding when◌then◌else◌
   whole = checked_on ∙ sym (goes_on_lem refused_record (λ n at. events_checked n s at) s)
 
   pub checked_refused : (k : ℕ) (c : Checked) → head_of s ≡ Refused k → c ≡ refused_record k → c ≡ checked s

@@ -1,6 +1,6 @@
 -- 02, No. 2: a record, as it is written and as it is read.
 use Rattle.std.specs.Prelude.{ℕ, Bool, true, List, [], ◌∷◌, length}
-use Rattle.laws.specs.Choice.{if◌then◌else◌, ◌and◌, ◌=?◌, ◌≤?◌}
+use Rattle.laws.specs.Choice.{when◌then◌else◌, ◌and◌, ◌=?◌, ◌≤?◌}
 use Rattle.laws.specs.Parts.{put_at}
 use Rattle.session.specs.Events.{second}
 use Rattle.handset.specs.Refusals.{◌before◌, ◌unless◌}
@@ -30,12 +30,12 @@ recording_refusal es room =
 unfoldable pub recorded : List ℕ → ℕ → Recorded
 recorded es room = record {
   refusal = recording_refusal es room;
-  length = if recording_refusal es room =? 0 then length (record_of es) else 0;
+  length = when recording_refusal es room =? 0 then length (record_of es) else 0;
 }
 
 -- the room after it: the record at its start, and its rest as it was; a refusal alters no byte
 unfoldable pub recorded_in : List ℕ → List ℕ → List ℕ
-recorded_in es room = if recording_refusal es (length room) =? 0 then put_at 0 (record_of es) room else room
+recorded_in es room = when recording_refusal es (length room) =? 0 then put_at 0 (record_of es) room else room
 
 -- ---- reading: the head
 
@@ -43,7 +43,7 @@ recorded_in es room = if recording_refusal es (length room) =? 0 then put_at 0 (
 -- `broken` where one of the two breaks the rules or is missing, `other` for another form
 unfoldable pub on_head : {A : Type 0} → A → A → (ℕ → ℕ → A) → List ℕ → A
 on_head broken other f s =
-    on_read broken (λ form at. if form =? 1 then on_read broken f (number_at s at) else other) (number_at s 0)
+    on_read broken (λ form at. when form =? 1 then on_read broken f (number_at s at) else other) (number_at s 0)
 
 -- ---- reading: the events
 
@@ -74,6 +74,6 @@ start_of s = on_head 0 0 (λ n at. at) s
 unfoldable pub checked : List ℕ → Checked
 checked s = record {
   refusal = record_refusal s;
-  events = if record_refusal s =? 0 then length (events_of s) else 0;
-  start = if record_refusal s =? 0 then start_of s else 0;
+  events = when record_refusal s =? 0 then length (events_of s) else 0;
+  start = when record_refusal s =? 0 then start_of s else 0;
 }

@@ -1,6 +1,6 @@
 -- Nobody has to believe this file: what the check of a record knows on its way.
 use Rattle.std.specs.Prelude.{ℕ, List}
-use Rattle.laws.specs.Choice.{if◌then◌else◌, ◌=?◌}
+use Rattle.laws.specs.Choice.{when◌then◌else◌, ◌=?◌}
 use Rattle.record.specs.Forms.{on_head, events_refusal}
 use Rattle.record.specs.declared.reading.Checked.{Checked}
 use Rattle.record.specs.declared.reading.Head.{Head}
@@ -18,6 +18,6 @@ refused_record k = record { refusal = k; events = 0; start = 0 }
 unfoldable pub events_checked : ℕ → List ℕ → ℕ → Checked
 events_checked n s at = record {
   refusal = events_refusal n s at;
-  events = if events_refusal n s at =? 0 then n else 0;
-  start = if events_refusal n s at =? 0 then at else 0;
+  events = when events_refusal n s at =? 0 then n else 0;
+  start = when events_refusal n s at =? 0 then at else 0;
 }

@@ -2,7 +2,7 @@
 -- and how numbers are read.
 use Rattle.std.specs.Prelude.{ℕ, zero, suc, ◌+◌, ◌-◌, ◌*◌, ◌/◌, ◌%◌, ◌≤◌, ◌<◌, ◌≡◌, List, [], ◌∷◌, ◌++◌}
 use Rattle.std.specs.Prelude.{length, get_or}
-use Rattle.laws.specs.Choice.{if◌then◌else◌, ◌=?◌, ◌<?◌, ◌≤?◌}
+use Rattle.laws.specs.Choice.{when◌then◌else◌, ◌=?◌, ◌<?◌, ◌≤?◌}
 use Rattle.laws.specs.Bytes.{byte_at}
 use Rattle.laws.specs.Digits.{number_from}
 use Rattle.record.specs.declared.number.Read.{Read}
@@ -50,8 +50,8 @@ pub record Written (n : ℕ) (b : List ℕ) : Type 0 where
 -- the bytes of a number up to 65,535: the only ones that are that number (`Promises`)
 unfoldable pub encoded : ℕ → List ℕ
 encoded n =
-    if n <? 128 then n ∷ []
-    else if n <? 16384 then (128 + n / 128) ∷ (n % 128) ∷ []
+    when n <? 128 then n ∷ []
+    else when n <? 16384 then (128 + n / 128) ∷ (n % 128) ∷ []
     else (128 + n / 16384) ∷ (128 + n / 128 % 128) ∷ (n % 128) ∷ []
 
 -- numbers one after the other
@@ -61,32 +61,32 @@ sequence_of (n ∷ ns) = encoded n ++ sequence_of ns
 
 -- the place after b where b fits at a place of s; else that place
 unfoldable pub behind : ℕ → List ℕ → List ℕ → ℕ
-behind at b s = if (at + length b) ≤? length s then at + length b else at
+behind at b s = when (at + length b) ≤? length s then at + length b else at
 
 -- ---- reading
 
 -- the third group, where the two before it have the top bit; a first group over 3 is a number over 65,535
 abbrev pub third_at : List ℕ → ℕ → Read
 third_at s at =
-    if length s ≤? (at + 2) then Broken
-    else if 128 ≤? byte_at s (at + 2) then Broken
-    else if 131 <? byte_at s at then Broken
+    when length s ≤? (at + 2) then Broken
+    else when 128 ≤? byte_at s (at + 2) then Broken
+    else when 131 <? byte_at s at then Broken
     else Number ((byte_at s at - 128) * 16384 + (byte_at s (at + 1) - 128) * 128 + byte_at s (at + 2))
     (at + 3)
 
 -- the second group, where the first has the top bit and is not 0
 abbrev pub second_at : List ℕ → ℕ → Read
 second_at s at =
-    if length s ≤? (at + 1) then Broken
-    else if byte_at s (at + 1) <? 128 then Number ((byte_at s at - 128) * 128 + byte_at s (at + 1)) (at + 2)
+    when length s ≤? (at + 1) then Broken
+    else when byte_at s (at + 1) <? 128 then Number ((byte_at s at - 128) * 128 + byte_at s (at + 1)) (at + 2)
     else third_at s at
 
 -- R44: the number at a place with the place after it, or that the rules are broken there
 unfoldable pub number_at : List ℕ → ℕ → Read
 number_at s at =
-    if length s ≤? at then Broken
-    else if byte_at s at <? 128 then Number (byte_at s at) (at + 1)
-    else if byte_at s at =? 128 then Broken
+    when length s ≤? at then Broken
+    else when byte_at s at <? 128 then Number (byte_at s at) (at + 1)
+    else when byte_at s at =? 128 then Broken
     else second_at s at
 
 -- what goes on from a number that was read, with the place after it

@@ -3,7 +3,7 @@
 -- `promises`: (theorem), or (by definition).
 use Rattle.std.specs.Prelude.{ℕ, ◌+◌, ◌≤◌, ◌<◌, ◌≡◌, ◌≢◌, ◌↔◌, true, false, List, [], ◌∷◌, ◌++◌, length}
 use Rattle.std.specs.Prelude.{take, drop}
-use Rattle.laws.specs.Choice.{if◌then◌else◌, ◌≤?◌}
+use Rattle.laws.specs.Choice.{when◌then◌else◌, ◌≤?◌}
 use Rattle.laws.specs.Bytes.{byte_at}
 use Rattle.laws.specs.Parts.{put_at}
 use Rattle.record.specs.Numbers.{most_number, Written, encoded, behind, number_at}
@@ -88,8 +88,8 @@ pub record RecordPromises : Type 0 where
   -- (by definition) R46: the order of what a recording is refused for
   pub order : (es : List ℕ) (room : ℕ)
       → recording_refusal es room
-      ≡ (if length es ≤? most_number
-      then (if are_events es then (if length (record_of es) ≤? room then 0 else 25) else 13)
+      ≡ (when length es ≤? most_number
+      then (when are_events es then (when length (record_of es) ≤? room then 0 else 25) else 13)
       else 16)
   -- (by definition) a refused recording has that number and the length 0, and alters no byte
   pub refused : (es room : List ℕ) → recording_refusal es (length room) ≢ 0

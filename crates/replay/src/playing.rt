@@ -1,6 +1,6 @@
 // A record played to its end, on lent bytes: the sheet and the last picture.
 ghost use Rattle.std.specs.Prelude.{◌≡◌, [], length};
-ghost use Rattle.laws.specs.Choice.{if◌then◌else◌, ◌≤?◌};
+ghost use Rattle.laws.specs.Choice.{when◌then◌else◌, ◌≤?◌};
 ghost use Rattle.picture.specs.Rows.{picture_of};
 ghost use Rattle.playback.specs.Replay.{play_refusal, play_answer, play_sheet};
 
@@ -13,7 +13,7 @@ pub const MAX_RECORD: usize = 16000;
 
 // A record as it is played: a longer one counts as empty.
 pub fn taken<'a>(recorded: &'a [u8]) -> &'a [u8]
-    ensures { result.now ≡ (if length recorded.now ≤? 16000
+    ensures { result.now ≡ (when length recorded.now ≤? 16000
         then recorded.now else []) }
 {
     if recorded.len() <= MAX_RECORD {

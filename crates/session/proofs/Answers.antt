@@ -4,7 +4,7 @@ use mathlib.Core.Path.{◌≡◌, refl, sym, ap, ◌∙◌}
 use mathlib.Core.Bool.{false, false≢true}
 use native.Mathlib.Nat.{min-eq_left}
 use native.Mathlib.Omega.{arith}
-use Rattle.laws.specs.Choice.{if◌then◌else◌, ◌=?◌, ◌<?◌}
+use Rattle.laws.specs.Choice.{when◌then◌else◌, ◌=?◌, ◌<?◌}
 use Rattle.laws.proofs.Cases.{if_lt, if_ge, if_ne}
 use Rattle.field.specs.declared.kind.ImagePlace.{ImagePlace}
 use Rattle.session.specs.Answers.{finished_from, fired_from, refused_from, answer_number, most_place, told_number, is_refused}
@@ -25,14 +25,14 @@ place n = record { 0 = n }
 -- the answer with a number
 abbrev answer_of : ℕ → Answer
 answer_of n =
-    if n =? 0 then answer.Taken
-    else if n <? finished_from then answer.Flash
-    else if n <? fired_from then answer.Finished (place (n - finished_from))
-    else if n <? refused_from then answer.Fired (place (n - fired_from))
+    when n =? 0 then answer.Taken
+    else when n <? finished_from then answer.Flash
+    else when n <? fired_from then answer.Finished (place (n - finished_from))
+    else when n <? refused_from then answer.Fired (place (n - fired_from))
     else answer.Refused (n - refused_from)
 
 again : (a : Answer) → Near a → answer_of (answer_number a) ≡ a
-unfolding answer_number if◌then◌else◌
+unfolding answer_number when◌then◌else◌
 again answer.Taken h = refl
 again answer.Flash h = refl
 again (answer.Finished p) h =

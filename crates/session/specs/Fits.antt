@@ -1,7 +1,7 @@
 -- 01, A session fits when: one definition for each clause, in the paper's order; the idle count needs none,
 -- since it is a byte. Nothing more is asked.
 use Rattle.std.specs.Prelude.{ℕ, zero, suc, ◌+◌, ◌-◌, Bool, true, List, [], ◌∷◌, get_or, take}
-use Rattle.laws.specs.Choice.{if◌then◌else◌, ◌and◌, ◌=?◌, ◌<?◌, ◌≤?◌}
+use Rattle.laws.specs.Choice.{when◌then◌else◌, ◌and◌, ◌=?◌, ◌<?◌, ◌≤?◌}
 use Rattle.laws.specs.Bytes.{byte_at}
 use Rattle.field.specs.Profiles.{profile_of}
 use Rattle.field.specs.Cells.{legal}
@@ -65,7 +65,7 @@ tables_fit im s = (s.outer <? deepest_table)
 -- the working copy of a visit has a chosen cell or part of the field, and cells that are legal with it; a
 -- trigger has no value, so nothing is asked of its cells
 unfoldable pub work_fits : Kind → Work → Bool
-work_fits k w = (w.at <? (profile_of k).cells) and (if (profile_of k).fires then true else legal k w)
+work_fits k w = (w.at <? (profile_of k).cells) and (when (profile_of k).fires then true else legal k w)
 
 -- an open visit, with working copy w, is of an editable field or trigger on the cursor line; `line` is where
 -- that line is, here and below

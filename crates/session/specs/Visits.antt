@@ -1,6 +1,6 @@
 -- 01, Keys, a visit: what a key makes of the working copy, and what follows from it for session and sheet.
 use Rattle.std.specs.Prelude.{ℕ, List}
-use Rattle.laws.specs.Choice.{if◌then◌else◌, ◌=?◌, ◌≤?◌}
+use Rattle.laws.specs.Choice.{when◌then◌else◌, ◌=?◌, ◌≤?◌}
 use Rattle.field.specs.Profiles.{profile_of, cell_of}
 use Rattle.keys.specs.Keys as key
 use Rattle.field.specs.Sheet.{finished_in}
@@ -26,12 +26,12 @@ use Rattle.session.specs.declared.answer.Stepped.{Stepped}
 -- cell, ENTER by the kind; R26: POINT flashes
 unfoldable pub pressed : Kind → Work → ℕ → Pressed
 pressed k w e =
-    if e =? up then key.up_key (profile_of k) (cell_of k w.cells w.at) w
-    else if e =? down then key.down_key (profile_of k) (cell_of k w.cells w.at) w
-    else if e =? left then key.left_key (profile_of k) (cell_of k w.cells w.at) w
-    else if e =? right then key.right_key (profile_of k) (cell_of k w.cells w.at) w
-    else if e =? enter then key.enter_key k w
-    else if e ≤? last_digit_key then key.digit_key (profile_of k) (cell_of k w.cells w.at) w e
+    when e =? up then key.up_key (profile_of k) (cell_of k w.cells w.at) w
+    else when e =? down then key.down_key (profile_of k) (cell_of k w.cells w.at) w
+    else when e =? left then key.left_key (profile_of k) (cell_of k w.cells w.at) w
+    else when e =? right then key.right_key (profile_of k) (cell_of k w.cells w.at) w
+    else when e =? enter then key.enter_key k w
+    else when e ≤? last_digit_key then key.digit_key (profile_of k) (cell_of k w.cells w.at) w e
     else key.flash w
 
 -- a visit is over: the next editable component of the line is visited, or editing ends
@@ -69,12 +69,12 @@ pressed_at im s p e = pressed (component_at im p.0).field.kind s.work e
 -- a second is taken and changes nothing, the idle count included
 unfoldable pub visit_step : List ℕ → List ℕ → Session → ImagePlace → ℕ → Stepped
 visit_step im sheet s p e =
-    if e =? second then taken s
+    when e =? second then taken s
     else followed im sheet (with_idle s 0) p (component_at im p.0).field (pressed_at im s p e).work
     (pressed_at im s p e).outcome
 
 unfoldable pub visit_sheet : List ℕ → List ℕ → Session → ImagePlace → ℕ → List ℕ
 visit_sheet im sheet s p e =
-    if e =? second then sheet
+    when e =? second then sheet
     else followed_sheet sheet (component_at im p.0).field (pressed_at im s p e).work
     (pressed_at im s p e).outcome

@@ -11,7 +11,7 @@
 --   94   32 x 4     its cells
 --  222   8 x 1      the digits typed
 use Rattle.std.specs.Prelude.{ℕ, zero, suc, ◌+◌, ◌-◌, ◌%◌, List, [], ◌∷◌, ◌++◌, length}
-use Rattle.laws.specs.Choice.{if◌then◌else◌, ◌=?◌}
+use Rattle.laws.specs.Choice.{when◌then◌else◌, ◌=?◌}
 use Rattle.laws.specs.Bytes.{byte_at}
 use Rattle.laws.specs.Digits.{low_first}
 use Rattle.field.specs.Cells.{most_cells}
@@ -61,7 +61,7 @@ session_bytes s = shown_bytes s ++ doing_bytes s
 
 -- a session is written to bytes of its length; bytes of another length stay
 unfoldable pub session_written : Session → List ℕ → List ℕ
-session_written s bs = if length bs =? session_size then session_bytes s else bs
+session_written s bs = when length bs =? session_size then session_bytes s else bs
 
 -- ---- from bytes
 
@@ -75,7 +75,7 @@ levels_from (suc n) at bs = level_from at bs ∷ levels_from n (at + 10) bs
 -- a number that is no mode's is browsing; of a count of digits the lowest byte counts
 unfoldable pub mode_by : ℕ → ℕ → Mode
 mode_by tag x =
-    if tag =? 1 then mode.Visit (record { 0 = x }) else if tag =? 2 then mode.Password (x % 256)
+    when tag =? 1 then mode.Visit (record { 0 = x }) else when tag =? 2 then mode.Password (x % 256)
     else mode.Browsing
 
 -- bytes of a session's length
@@ -94,4 +94,4 @@ session_in bs = record {
 
 -- bytes of another length are the closed session, which never fits
 unfoldable pub session_from : List ℕ → Session
-session_from bs = if length bs =? session_size then session_in bs else closed
+session_from bs = when length bs =? session_size then session_in bs else closed

@@ -7,7 +7,7 @@ use native.Mathlib.Omega.{arith}
 use borrow.Author.Tests.{le-leb}
 use lib.ListN.{length, get_or, replicate, length-append}
 use Rattle.laws.specs.Bytes.{byte_at}
-use Rattle.laws.specs.Choice.{if◌then◌else◌, ◌≤?◌, ◌and◌}
+use Rattle.laws.specs.Choice.{when◌then◌else◌, ◌≤?◌, ◌and◌}
 use Rattle.laws.proofs.Cases.{if_eq, if_ne, if_lt, if_ge, if_true, if_false}
 use Rattle.laws.specs.Overwrite.{fit}
 use Rattle.field.specs.Settings.{digit_count}
@@ -97,13 +97,13 @@ decimal_as e f g = rw (e, f) at g
 pub time_long : {x z : List ℕ} {at r : ℕ} (cs : List ℕ) (long : Bool) → long ≡ true
     → Put x at (decimal 2 (get_or cs 0 0) ++ (colon ∷ (decimal 2 (get_or cs 1 0) ++ (colon ∷ decimal 2 (get_or cs 2 0))))) z r
     → Put x at (time_text long cs) z r
-unfolding time_text if◌then◌else◌
+unfolding time_text when◌then◌else◌
 time_long cs long h e = rw h e
 
 pub time_short : {x z : List ℕ} {at r : ℕ} (cs : List ℕ) (long : Bool) → long ≡ false
     → Put x at (decimal 2 (get_or cs 0 0) ++ (colon ∷ decimal 2 (get_or cs 1 0))) z r
     → Put x at (time_text long cs) z r
-unfolding time_text if◌then◌else◌
+unfolding time_text when◌then◌else◌
 time_short cs long h e = rw (h, append-nil) e
 
 -- ---- options
@@ -142,7 +142,7 @@ unfolding within cell_of ◌and◌
 option_range n w b = range_of_option n w b ∙ rw (le-leb 0 b (omega arith))
 
 pub field_option : {x z : List ℕ} {at r : ℕ} (im sheet : List ℕ) (p : ℕ) (f : Field) (n w b : ℕ) → f.kind ≡ Option n w → b ≡ byte_at sheet f.sheet.0
-    → Put x at (if b ≤? (n - 1) then padded_right w (text_bytes im (item_place im p b)) else replicate w hash) z r → Put x at (field_text im sheet p f) z r
+    → Put x at (when b ≤? (n - 1) then padded_right w (text_bytes im (item_place im p b)) else replicate w hash) z r → Put x at (field_text im sheet p f) z r
 unfolding field_text cells_text cells_of work_of fit width_of
 field_option im sheet p f n w b k e a = same (sym (rw (option_number sheet f n w k, ← e, k, option_range n w b))) a
 

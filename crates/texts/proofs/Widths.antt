@@ -6,7 +6,7 @@ use mathlib.Core.List.{List, [], ◌∷◌}
 use native.Mathlib.Omega.{arith}
 use lib.ListN.{length, get_or, replicate, drop, length-append, length-replicate, length-take}
 use borrow.Author.Tests.{leb-true, eqb-true, eqb-false, ltb-true, ltb-false}
-use Rattle.laws.specs.Choice.{if◌then◌else◌, ◌=?◌, ◌<?◌}
+use Rattle.laws.specs.Choice.{when◌then◌else◌, ◌=?◌, ◌<?◌}
 use Rattle.laws.proofs.Cases.{if_ind, by_test, if_lt, if_ge, if_max, and_l, and_r}
 use Rattle.field.specs.Formats.{signs_of, numeral_of, bits_of}
 use Rattle.field.specs.Profiles.{profile_of, cell_of, open_day, held_to}
@@ -66,13 +66,13 @@ aligned_width w s h = length-append (replicate (w - length s) blank) s ∙ omega
 padded_width : (w : ℕ) (s : List ℕ) → length s ≤ w → length (padded_right w s) ≡ w
 padded_width w s h = length-append s (replicate (w - length s) blank) ∙ omega (arith, length-replicate {A = ℕ} (w - length s) blank)
 
-time_width : (long : Bool) (cs : List ℕ) → length (time_text long cs) ≡ (if long then 8 else 5)
-unfolding time_text decimal if◌then◌else◌
+time_width : (long : Bool) (cs : List ℕ) → length (time_text long cs) ≡ (when long then 8 else 5)
+unfolding time_text decimal when◌then◌else◌
 time_width true cs = refl
 time_width false cs = refl
 
 date_width : (long : Bool) (cs : List ℕ) → length (date_text long cs) ≡ year_cells long + 6
-unfolding date_text decimal year_cells if◌then◌else◌
+unfolding date_text decimal year_cells when◌then◌else◌
 date_width true cs = refl
 date_width false cs = refl
 
@@ -133,7 +133,7 @@ count_between low x high w a b c d =
 
 -- a counter with good settings, at a legal value, has room
 pub counter_room : (s : CounterSettings) (v : Work) → kind_fits (Counter s) ≡ true → legal (Counter s) v ≡ true → counted_cells (get_or v.cells 0 0) ≤ s.width
-unfolding kind_fits width_fits legal all_within profile_of cell_of open_day held_to within if◌then◌else◌
+unfolding kind_fits width_fits legal all_within profile_of cell_of open_day held_to within when◌then◌else◌
 counter_room s v g l =
     let w = and_r _ _ g in
     let i = and_r _ _ l in
@@ -169,7 +169,7 @@ option_some n w h = leb-true 1 n h
 
 -- a legal option shows one of its items
 legal_item : (n w : ℕ) (v : Work) → 1 ≤ n → legal (Option n w) v ≡ true → get_or v.cells 0 0 < n
-unfolding legal all_within profile_of cell_of open_day held_to within if◌then◌else◌
+unfolding legal all_within profile_of cell_of open_day held_to within when◌then◌else◌
 legal_item n w v h l = omega (arith, leb-true (get_or v.cells 0 0) (n - 1) (and_r _ _ (and_r _ _ l)))
 
 -- a field shows as many cells as it takes, whatever legal cells it shows

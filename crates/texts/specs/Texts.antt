@@ -1,7 +1,7 @@
 -- What a component shows (01, Fields and Picture): the text of each kind, cell by cell of the display.
 use Rattle.std.specs.Prelude.{ℕ, zero, suc, ◌+◌, ◌-◌, ◌/◌, ◌%◌, Bool, List, [], ◌∷◌, ◌++◌, length}
 use Rattle.std.specs.Prelude.{get_or, replicate}
-use Rattle.laws.specs.Choice.{if◌then◌else◌, ◌=?◌, ◌<?◌}
+use Rattle.laws.specs.Choice.{when◌then◌else◌, ◌=?◌, ◌<?◌}
 use Rattle.field.specs.Formats.{signs_of, digits_in, numeral_of, bits_in, bits_of}
 use Rattle.field.specs.Values.{number_of, value_at}
 use Rattle.field.specs.Cells.{cells_of, in_range, work_of}
@@ -39,11 +39,11 @@ letter_a = 0x41
 
 -- 01, Fields: hex letters are capitals; a legal digit is below 16, so the blank is never shown
 unfoldable pub digit_char : ℕ → ℕ
-digit_char d = if d <? 10 then digit0 + d else if d <? 16 then letter_a + (d - 10) else blank
+digit_char d = when d <? 10 then digit0 + d else when d <? 16 then letter_a + (d - 10) else blank
 
 -- a sign cell holds 1 for '+'
 unfoldable pub sign_char : ℕ → ℕ
-sign_char c = if c =? 0 then dash else plus
+sign_char c = when c =? 0 then dash else plus
 
 -- ---- numbers
 
@@ -56,7 +56,7 @@ digit_cells cs at (suc n) = digit_char (get_or cs at 0) ∷ digit_cells cs (at +
 -- switch's highest bit is its first cell
 unfoldable pub numeral_text : Numeral → List ℕ → List ℕ
 numeral_text n cs =
-    if n.signs =? 0 then digit_cells cs 0 n.digits
+    when n.signs =? 0 then digit_cells cs 0 n.digits
     else sign_char (get_or cs 0 0) ∷ digit_cells cs 1 n.digits
 
 -- the n lowest decimal digits of a number
@@ -71,7 +71,7 @@ plain x = decimal (digit_count x) x
 -- 01, Fields: a counter below 0 has a '-' and no other has a sign; the cell holds the number with 32,768
 -- added
 unfoldable pub count_text : ℕ → List ℕ
-count_text x = if x <? 32768 then dash ∷ plain (32768 - x) else plain (x - 32768)
+count_text x = when x <? 32768 then dash ∷ plain (32768 - x) else plain (x - 32768)
 
 -- blanks before a text, or after it, up to a width
 abbrev pub aligned_right : ℕ → List ℕ → List ℕ
@@ -86,11 +86,11 @@ padded_right w s = s ++ replicate (w - length s) blank
 unfoldable pub time_text : Bool → List ℕ → List ℕ
 time_text long cs =
     decimal 2 (get_or cs 0 0) ++ (colon ∷
-    (decimal 2 (get_or cs 1 0) ++ (if long then colon ∷ decimal 2 (get_or cs 2 0) else [])))
+    (decimal 2 (get_or cs 1 0) ++ (when long then colon ∷ decimal 2 (get_or cs 2 0) else [])))
 
 -- 01, Fields: year, month, day; the long form has four digits of the year, the short one two
 unfoldable pub year_cells : Bool → ℕ
-year_cells long = if long then 4 else 2
+year_cells long = when long then 4 else 2
 
 unfoldable pub date_text : Bool → List ℕ → List ℕ
 date_text long cs =
@@ -118,7 +118,7 @@ cells_text im p Trigger cs = trigger_text
 unfoldable pub width_of : Kind → ℕ
 width_of (Integer f) = signs_of f + digits_in f
 width_of (Counter s) = s.width
-width_of (Time long) = if long then 8 else 5
+width_of (Time long) = when long then 8 else 5
 width_of (Date long) = year_cells long + 6
 width_of (Switch n) = bits_in n
 width_of (Option n w) = w
@@ -131,6 +131,6 @@ sheet_number sheet f = number_of (value_at f.sheet.0 (size_of f) sheet)
 -- 01, Fields: the sheet's value, or a row of '#' as wide as the field where that is out of range
 unfoldable pub field_text : List ℕ → List ℕ → ℕ → Field → List ℕ
 field_text im sheet p f =
-    if in_range f.kind (sheet_number sheet f)
+    when in_range f.kind (sheet_number sheet f)
     then cells_text im p f.kind (work_of (cells_of f.kind (sheet_number sheet f))).cells
     else replicate (width_of f.kind) hash

@@ -1,6 +1,6 @@
 // What a component shows: the text of each kind, put into a row from a place on.
 ghost use Rattle.std.specs.Prelude.{◌≡◌, ◌-◌, get_or, replicate};
-ghost use Rattle.laws.specs.Choice.{if◌then◌else◌, ◌≤?◌};
+ghost use Rattle.laws.specs.Choice.{when◌then◌else◌, ◌≤?◌};
 ghost use Rattle.field.specs.Cells.{cells_of, work_of};
 ghost use Rattle.texts.specs.Row.{Put};
 ghost use Rattle.texts.specs.Texts.{hash, digit_char, sign_char, digit_cells, numeral_text, decimal};
@@ -264,7 +264,7 @@ fn put_option(
     longest: u8,
 ) -> usize
     ensures { Put row.old at
-        (if x ≤? (items - 1) then padded_right longest
+        (when x ≤? (items - 1) then padded_right longest
         (text_bytes image.now (item_place image.now place x)) else replicate longest hash)
         row.new result }
 {

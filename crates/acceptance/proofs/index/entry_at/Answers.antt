@@ -1,5 +1,5 @@
 -- Each return is the case of the definition that the tests on its path choose.
-use Rattle.laws.specs.Choice.{if◌then◌else◌}
+use Rattle.laws.specs.Choice.{when◌then◌else◌}
 use borrow.Author.Tests.{ltb-true}
 use Rattle.laws.proofs.Cases.{via}
 use Rattle.acceptance.specs.Index.{entry_at}
@@ -34,9 +34,9 @@ pub bounds-index-at-then-there-2 : goal.bounds-index-at-then-there-2
 bounds-index-at-then-there-2 c = let e = via c.has_triple-there.ensures c.if-there.true in omega (arith, ltb-true)
 
 pub returns-then-there : goal.returns-then-there
-unfolding entry_at if◌then◌else◌
+unfolding entry_at when◌then◌else◌
 returns-then-there c = simp (via c.has_triple-there.ensures c.if-there.true)
 
 pub returns : goal.returns
-unfolding entry_at if◌then◌else◌
+unfolding entry_at when◌then◌else◌
 returns c = simp (via c.has_triple-there.ensures c.if-there.false)

@@ -1,5 +1,5 @@
 -- Each return is the case of the definition that the tests on its path choose.
-use Rattle.laws.specs.Choice.{if◌then◌else◌}
+use Rattle.laws.specs.Choice.{when◌then◌else◌}
 use borrow.Author.Tests.{ltb-true}
 use Rattle.laws.proofs.Cases.{via}
 use Rattle.acceptance.specs.Index.{with_entry}
@@ -35,9 +35,9 @@ pub bounds-index-at-then-there-2 : goal.bounds-index-at-then-there-2
 bounds-index-at-then-there-2 c = let e = via c.has_triple-there.ensures c.if-there.true in simp length-set (omega (arith, ltb-true))
 
 pub returns-then-there : goal.returns-then-there
-unfolding with_entry if◌then◌else◌
+unfolding with_entry when◌then◌else◌
 returns-then-there c = simp (via c.has_triple-there.ensures c.if-there.true)
 
 pub returns-else-there : goal.returns-else-there
-unfolding with_entry if◌then◌else◌
+unfolding with_entry when◌then◌else◌
 returns-else-there c = simp (via c.has_triple-there.ensures c.if-there.false)

@@ -1,7 +1,7 @@
 -- Each return is the case of the definition that the tests on its path choose.
 use Rattle.laws.proofs.Cases.{choices}
 use native.Mathlib.Omega.{arith}
-use Rattle.laws.specs.Choice.{if◌then◌else◌}
+use Rattle.laws.specs.Choice.{when◌then◌else◌}
 use borrow.Author.Tests.{ne_eqb}
 use Rattle.acceptance.specs.Check.{padded}
 use Rattle.acceptance.proofs.shared.is_padded.Goals as goal
@@ -11,5 +11,5 @@ unfolding padded
 returns-then-at-place c = search (choices, arith)
 
 pub returns : goal.returns
-unfolding padded if◌then◌else◌
+unfolding padded when◌then◌else◌
 returns c = simp (ne_eqb _ _ c.if-at-place.false, c.byte_at.ensures)

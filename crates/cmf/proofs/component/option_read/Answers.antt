@@ -1,7 +1,7 @@
 -- What the callees ensure, put together.
-use Rattle.laws.specs.Choice.{if◌then◌else◌}
+use Rattle.laws.specs.Choice.{when◌then◌else◌}
 use Rattle.cmf.proofs.component.option_read.Goals as goal
 
 pub returns : goal.returns
-unfolding if◌then◌else◌
+unfolding when◌then◌else◌
 returns c = simp (c.option_field.ensures, c.nine_unless.ensures, c.option_fits.ensures)

@@ -2,7 +2,7 @@
 use mathlib.Core.Path.{◌∙◌, refl}
 use native.Mathlib.Omega.{arith}
 use borrow.Author.Tests.{le-ltb}
-use Rattle.laws.specs.Choice.{if◌then◌else◌}
+use Rattle.laws.specs.Choice.{when◌then◌else◌}
 use Rattle.cmf.specs.Readers.{component_at}
 use Rattle.cmf.proofs.Shortcuts.{component_here}
 use Rattle.cmf.proofs.component.read_component.Goals as goal
@@ -17,5 +17,5 @@ pub returns-then-at-image : goal.returns-then-at-image
 returns-then-at-image c = c.component_by.ensures ∙ component_here c.args.image.now c.args.at _ c.if-at-image.true refl
 
 pub returns : goal.returns
-unfolding component_at if◌then◌else◌
+unfolding component_at when◌then◌else◌
 returns c = simp (c.refused.ensures, le-ltb _ _ c.if-at-image.false)

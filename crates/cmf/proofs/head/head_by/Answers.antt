@@ -4,7 +4,7 @@ use mathlib.Core.Path.{◌≡◌}
 use Rattle.cmf.specs.Readers.{texts_from, passwords, options_end, head_by}
 use Rattle.cmf.proofs.Turning.{texts_inside, bits_le, head_whole}
 use native.Mathlib.Omega.{arith}
-use Rattle.laws.specs.Choice.{if◌then◌else◌}
+use Rattle.laws.specs.Choice.{when◌then◌else◌}
 use borrow.Author.Tests.{le-leb, lt-leb}
 use Rattle.cmf.proofs.head.head_by.Goals as goal
 
@@ -18,13 +18,13 @@ pub returns-then-t : goal.returns-then-t
 returns-then-t c = let p = c.args.p in let tag = c.args.tag in let d : p + c.options_length.result ≡ options_end p tag = omega (arith, c.options_length.ensures) in let e : c.read_texts-run.result ≡ texts_from c.args.image.now (passwords tag) (options_end p tag) 0 = rw d at c.read_texts-run.ensures in rw (← e) (head_whole c.args.image.now p tag c.read_texts-run.result c.head_read.result (rw d at c.if-options-image.true) c.if-run.true c.if-t.true c.head_read.ensures)
 
 pub returns-then-run : goal.returns-then-run
-unfolding head_by if◌then◌else◌
+unfolding head_by when◌then◌else◌
 returns-then-run c = let p = c.args.p in let tag = c.args.tag in let d : p + c.options_length.result ≡ options_end p tag = omega (arith, c.options_length.ensures) in let e : c.read_texts-run.result ≡ texts_from c.args.image.now (passwords tag) (options_end p tag) 0 = rw d at c.read_texts-run.ensures in simp (c.refused.ensures, ← e, le-leb _ _ (rw d at c.if-options-image.true), c.if-run.true, lt-leb _ _ c.if-t.false)
 
 pub returns-then-options-image : goal.returns-then-options-image
-unfolding head_by if◌then◌else◌
+unfolding head_by when◌then◌else◌
 returns-then-options-image c = let p = c.args.p in let tag = c.args.tag in let d : p + c.options_length.result ≡ options_end p tag = omega (arith, c.options_length.ensures) in let e : c.read_texts-run.result ≡ texts_from c.args.image.now (passwords tag) (options_end p tag) 0 = rw d at c.read_texts-run.ensures in simp (c.refused-then-options-image.ensures, ← e, le-leb _ _ (rw d at c.if-options-image.true), c.if-run.false)
 
 pub returns : goal.returns
-unfolding head_by if◌then◌else◌
+unfolding head_by when◌then◌else◌
 returns c = let p = c.args.p in let tag = c.args.tag in let d : p + c.options_length.result ≡ options_end p tag = omega (arith, c.options_length.ensures) in simp (c.refused-2.ensures, lt-leb _ _ (rw d at c.if-options-image.false))

@@ -1,6 +1,6 @@
 -- Each return is the case of the definition that the tests on its path choose.
 use native.Mathlib.Omega.{arith}
-use Rattle.laws.specs.Choice.{if◌then◌else◌}
+use Rattle.laws.specs.Choice.{when◌then◌else◌}
 use Prim.Native.Nat.{◌+◌, ◌-◌}
 use mathlib.Core.Path.{◌≡◌}
 use lib.ListN.{length}
@@ -19,9 +19,9 @@ pub slice_bounds-result-end : goal.slice_bounds-result-end
 slice_bounds-result-end c = omega (arith, room_le (length c.args.image.now) c.args.at (1 + c.byte_at-n.result) (via c.room-whole.ensures c.if-whole.true))
 
 pub returns-then-whole : goal.returns-then-whole
-unfolding text_bytes if◌then◌else◌
+unfolding text_bytes when◌then◌else◌
 returns-then-whole c = let z : c.args.at + 1 + c.byte_at-n.result - (c.args.at + 1) ≡ c.byte_at-n.result = omega arith in simp (← c.byte_at-n.ensures, ← c.room-whole.ensures, c.if-whole.true, z)
 
 pub returns : goal.returns
-unfolding text_bytes if◌then◌else◌
+unfolding text_bytes when◌then◌else◌
 returns c = simp (← c.byte_at-n.ensures, ← c.room-whole.ensures, c.if-whole.false)

@@ -1,17 +1,17 @@
 -- Each return is the case of the definition that the tests on its path choose.
-use Rattle.laws.specs.Choice.{if◌then◌else◌}
+use Rattle.laws.specs.Choice.{when◌then◌else◌}
 use borrow.Author.Tests.{le-leb, lt-leb}
 use Rattle.keys.specs.Keys.{lowered}
 use Rattle.keys.proofs.press.lower.Goals as goal
 
 pub returns-then-c : goal.returns-then-c
-unfolding lowered if◌then◌else◌
+unfolding lowered when◌then◌else◌
 returns-then-c c = simp (c.taken.ensures, c.with_chosen.ensures, c.if-c.true)
 
 pub returns-then-c-step : goal.returns-then-c-step
-unfolding lowered if◌then◌else◌
+unfolding lowered when◌then◌else◌
 returns-then-c-step c = simp (c.taken-then-c-step.ensures, c.with_chosen-then-c-step.ensures, c.if-c.false, ← c.chosen-x.ensures.0, le-leb _ _ c.if-c-step.true)
 
 pub returns : goal.returns
-unfolding lowered if◌then◌else◌
+unfolding lowered when◌then◌else◌
 returns c = simp (c.flash.ensures, c.if-c.false, ← c.chosen-x.ensures.0, lt-leb _ _ c.if-c-step.false)

@@ -1,16 +1,16 @@
 -- Each return is the case of the definition that the tests on its path choose.
-use Rattle.laws.specs.Choice.{if◌then◌else◌}
+use Rattle.laws.specs.Choice.{when◌then◌else◌}
 use Rattle.keys.specs.Keys.{up_key}
 use Rattle.keys.proofs.press.up.Goals as goal
 
 pub returns-then-p : goal.returns-then-p
-unfolding up_key if◌then◌else◌
+unfolding up_key when◌then◌else◌
 returns-then-p c = simp c.if-p.true
 
 pub returns-then-p-2 : goal.returns-then-p-2
-unfolding up_key if◌then◌else◌
+unfolding up_key when◌then◌else◌
 returns-then-p-2 c = simp (c.flash.ensures, c.if-p.false, c.if-p-2.true)
 
 pub returns : goal.returns
-unfolding up_key if◌then◌else◌
+unfolding up_key when◌then◌else◌
 returns c = simp (c.raise.ensures, c.if-p.false, c.if-p-2.false)

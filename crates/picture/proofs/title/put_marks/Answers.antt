@@ -4,7 +4,7 @@ use mathlib.Core.Path.{◌≡◌, sym, ap, ◌∙◌}
 use mathlib.Core.List.{[], ◌∷◌}
 use native.Mathlib.Omega.{arith}
 use borrow.Author.Tests.{ltb-true, ltb-false}
-use Rattle.laws.specs.Choice.{if◌then◌else◌, ◌=?◌, ◌<?◌}
+use Rattle.laws.specs.Choice.{when◌then◌else◌, ◌=?◌, ◌<?◌}
 use Rattle.laws.specs.Digits.{digit0}
 use Rattle.laws.proofs.Cases.{by_test, if_true, if_false, if_eq, if_ne}
 use Rattle.texts.specs.Texts.{blank}
@@ -13,7 +13,7 @@ use Rattle.texts.proofs.Writing.{put_then}
 use Rattle.picture.proofs.title.put_marks.Goals as goal
 
 -- a line's number from its tens and what they leave
-number_cells : (n t u : ℕ) → t ≡ n / 10 → u ≡ n % 10 → line_number n ≡ (if t =? 0 then blank else digit0 + t) ∷ (digit0 + u) ∷ []
+number_cells : (n t u : ℕ) → t ≡ n / 10 → u ≡ n % 10 → line_number n ≡ (when t =? 0 then blank else digit0 + t) ∷ (digit0 + u) ∷ []
 unfolding line_number
 number_cells n t u p q =
     rw (p, q)

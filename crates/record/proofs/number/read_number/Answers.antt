@@ -1,5 +1,5 @@
 -- Each return is the case of the definition that the tests on its path choose; the last is eight tests deep and is given them.
-use Rattle.laws.specs.Choice.{if◌then◌else◌}
+use Rattle.laws.specs.Choice.{when◌then◌else◌}
 use Prim.Native.Nat.{◌+◌}
 use borrow.Author.Tests.{le-ltb, lt-leb, ne_eqb}
 use native.Mathlib.Omega.{arith}
@@ -61,5 +61,5 @@ pub overflow_add-result-3 : goal.overflow_add-result-3
 overflow_add-result-3 c = omega (arith, c.type_inv.bytes c.args.at, c.type_inv.bytes (c.args.at + 1))
 
 pub returns : goal.returns
-unfolding number_at if◌then◌else◌
+unfolding number_at when◌then◌else◌
 returns c = simp (lt-leb _ _ c.if-bytes-at.false, le-ltb _ _ c.if-a-lt128.false, ne_eqb _ _ c.if-a.false, lt-leb _ _ c.if-bytes-at-2.false, le-ltb _ _ c.if-b-lt128.false, lt-leb _ _ c.if-bytes-at-3.false, lt-leb _ _ c.if-c-ge128.false, le-ltb _ _ c.if-a-gt131.false)

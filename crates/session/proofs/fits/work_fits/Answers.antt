@@ -1,15 +1,15 @@
 -- Each return is the case of the definition that the tests on its path choose.
-use Rattle.laws.specs.Choice.{if◌then◌else◌, ◌and◌}
+use Rattle.laws.specs.Choice.{when◌then◌else◌, ◌and◌}
 use borrow.Author.Tests.{lt-ltb, le-ltb}
 use Rattle.session.specs.Fits.{work_fits}
 use Rattle.session.proofs.fits.work_fits.Goals as goal
 
 pub returns-then-p : goal.returns-then-p
-unfolding work_fits ◌and◌ if◌then◌else◌
+unfolding work_fits ◌and◌ when◌then◌else◌
 returns-then-p c = simp (← c.profile_of-p.ensures, lt-ltb _ _ c.if-work-p.true, c.if-p.true)
 
 pub returns-then-work-p : goal.returns-then-work-p
-unfolding work_fits ◌and◌ if◌then◌else◌
+unfolding work_fits ◌and◌ when◌then◌else◌
 returns-then-work-p c = simp (c.legal.ensures, ← c.profile_of-p.ensures, lt-ltb _ _ c.if-work-p.true, c.if-p.false)
 
 pub returns : goal.returns

@@ -1,11 +1,11 @@
 -- Each kind has its case.
-use Rattle.laws.specs.Choice.{if◌then◌else◌}
+use Rattle.laws.specs.Choice.{when◌then◌else◌}
 use Rattle.field.specs.Profiles.{profile_of}
 use Rattle.texts.specs.Texts.{width_of}
 use Rattle.texts.proofs.text.width_of.Goals as goal
 
 pub returns-then-long : goal.returns-then-long
-unfolding width_of if◌then◌else◌
+unfolding width_of when◌then◌else◌
 returns-then-long c = simp (c.in-Time.is, c.if-long.true)
 
 pub returns-in-Integer : goal.returns-in-Integer
@@ -17,7 +17,7 @@ unfolding width_of
 returns-in-Counter c = simp c.in-Counter.is
 
 pub returns-else-long : goal.returns-else-long
-unfolding width_of if◌then◌else◌
+unfolding width_of when◌then◌else◌
 returns-else-long c = simp (c.in-Time.is, c.if-long.false)
 
 pub returns-in-Date : goal.returns-in-Date

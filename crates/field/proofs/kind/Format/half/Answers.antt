@@ -1,12 +1,12 @@
 -- Each return is the case of the definition that the tests on its path choose.
-use Rattle.laws.specs.Choice.{if◌then◌else◌}
+use Rattle.laws.specs.Choice.{when◌then◌else◌}
 use Rattle.field.specs.Formats.{half_of}
 use Rattle.field.proofs.kind.Format.half.Goals as goal
 
 pub returns-then-self : goal.returns-then-self
-unfolding half_of if◌then◌else◌
+unfolding half_of when◌then◌else◌
 returns-then-self c = simp (c.limit.ensures, c.if-self.true)
 
 pub returns : goal.returns
-unfolding half_of if◌then◌else◌
+unfolding half_of when◌then◌else◌
 returns c = simp (c.limit-2.ensures, c.if-self.false)

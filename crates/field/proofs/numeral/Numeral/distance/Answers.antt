@@ -1,5 +1,5 @@
 -- Each return is the case of the definition that the tests on its path choose.
-use Rattle.laws.specs.Choice.{if◌then◌else◌}
+use Rattle.laws.specs.Choice.{when◌then◌else◌}
 use Prim.Native.Nat.{◌-◌}
 use mathlib.Core.Path.{◌≡◌}
 use borrow.Author.Tests.{lt-leb}
@@ -17,5 +17,5 @@ unfolding distance
 returns-then-x-self-2 c = search (choices, arith)
 
 pub returns : goal.returns
-unfolding distance if◌then◌else◌
+unfolding distance when◌then◌else◌
 returns c = let z : c.args.self.limit - c.args.x ≡ 0 = omega arith in simp (z, lt-leb _ _ c.if-x-self.false)

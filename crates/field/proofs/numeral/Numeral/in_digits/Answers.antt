@@ -3,7 +3,7 @@ use native.Mathlib.Omega.{arith}
 use mathlib.Core.Path.{◌≡◌, ◌∙◌}
 use mathlib.Core.List.{[], ◌∷◌}
 use borrow.Author.Tests.{eq-eqb, ne_eqb}
-use Rattle.laws.specs.Choice.{if◌then◌else◌, ◌=?◌}
+use Rattle.laws.specs.Choice.{when◌then◌else◌, ◌=?◌}
 use Rattle.laws.specs.Overwrite.{fit}
 use Rattle.field.specs.Cells.{in_digits, sign_of, work_of}
 use Rattle.field.proofs.Bounds.{distance_small}
@@ -22,9 +22,9 @@ write_digits-requires c = let s = c.requires in
     (s.bases, elim c.if-self-ne0.branch [ then-self-ne0 w ↦ rw w.cells-is s.cells | else-self-ne0 w ↦ rw w.cells-is s.cells ])
 
 pub returns : goal.returns
-unfolding in_digits work_of fit if◌then◌else◌
+unfolding in_digits work_of fit when◌then◌else◌
 returns c = let a = c.args in
-    let begun : c.if-self-ne0.cells ≡ fit 0 32 (if a.self.signs =? 0 then [] else sign_of a.self a.x ∷ []) =
+    let begun : c.if-self-ne0.cells ≡ fit 0 32 (when a.self.signs =? 0 then [] else sign_of a.self a.x ∷ []) =
     elim c.if-self-ne0.branch [
       | then-self-ne0 w ↦ w.cells-is ∙ rw (ne_eqb a.self.signs 0 w.if-self-ne0.true, w.sign.ensures)
       | else-self-ne0 w ↦ w.cells-is ∙ rw (eq-eqb a.self.signs 0 w.if-self-ne0.false)

@@ -1,12 +1,12 @@
 -- Each return is the case of the definition that the tests on its path choose.
-use Rattle.laws.specs.Choice.{if◌then◌else◌}
+use Rattle.laws.specs.Choice.{when◌then◌else◌}
 use Rattle.field.specs.Cells.{storable}
 use Rattle.field.proofs.numeral.Numeral.storable.Goals as goal
 
 pub returns-then-minus : goal.returns-then-minus
-unfolding storable if◌then◌else◌
+unfolding storable when◌then◌else◌
 returns-then-minus c = simp (← c.shown_by-m.ensures, ← c.minus.ensures, c.if-minus.true)
 
 pub returns : goal.returns
-unfolding storable if◌then◌else◌
+unfolding storable when◌then◌else◌
 returns c = simp (← c.shown_by-m.ensures, ← c.minus.ensures, c.if-minus.false)

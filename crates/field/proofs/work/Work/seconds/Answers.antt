@@ -1,12 +1,12 @@
 -- Each return is the case of the definition that the tests on its path choose.
-use Rattle.laws.specs.Choice.{if◌then◌else◌}
+use Rattle.laws.specs.Choice.{when◌then◌else◌}
 use native.Mathlib.Omega.{arith}
 use Rattle.field.proofs.work.Work.seconds.Goals as goal
 
 pub returns-then-long : goal.returns-then-long
-unfolding if◌then◌else◌
+unfolding when◌then◌else◌
 returns-then-long c = (simp (c.if-long.true, c.cell.ensures.0), omega (arith, c.cell.ensures.1))
 
 pub returns : goal.returns
-unfolding if◌then◌else◌
+unfolding when◌then◌else◌
 returns c = (simp c.if-long.false, omega arith)

@@ -1,12 +1,12 @@
 -- Each return is the case of the definition that the tests on its path choose.
-use Rattle.laws.specs.Choice.{if◌then◌else◌}
+use Rattle.laws.specs.Choice.{when◌then◌else◌}
 use Rattle.field.specs.Cells.{started}
 use Rattle.field.proofs.work.Work.start.Goals as goal
 
 pub returns-then-in_range : goal.returns-then-in_range
-unfolding started if◌then◌else◌
+unfolding started when◌then◌else◌
 returns-then-in_range c = simp (c.showing.ensures, ← c.number-x.ensures, ← c.in_range.ensures, c.if-in_range.true)
 
 pub returns : goal.returns
-unfolding started if◌then◌else◌
+unfolding started when◌then◌else◌
 returns c = simp (c.showing-2.ensures, ← c.number-x.ensures, ← c.in_range.ensures, c.if-in_range.false, c.number.ensures)
