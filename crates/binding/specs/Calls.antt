@@ -18,7 +18,8 @@ open_number im extent columns lines n =
     refused_by (open_refusal im extent columns lines before (12 unless (n =? session_size)))
 
 unfoldable pub opened_sheet : List ℕ → List ℕ → ℕ → ℕ → ℕ → List ℕ
-opened_sheet im sheet columns lines n = when n =? session_size then open_sheet im sheet columns lines else sheet
+opened_sheet im sheet columns lines n =
+    when n =? session_size then open_sheet im sheet columns lines else sheet
 
 -- the session, closed where it is refused
 unfoldable pub opened_bytes : List ℕ → ℕ → ℕ → ℕ → List ℕ → List ℕ

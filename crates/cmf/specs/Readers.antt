@@ -73,7 +73,8 @@ item_place im place item = item_from im item (place + 10)
 
 -- the bytes of the text at a place, without its length byte; none where it is not all in the image
 unfoldable pub text_bytes : List ℕ → ℕ → List ℕ
-text_bytes im at = when room (length im) at (1 + byte_at im at) then part_at (at + 1) (byte_at im at) im else []
+text_bytes im at =
+    when room (length im) at (1 + byte_at im at) then part_at (at + 1) (byte_at im at) im else []
 
 -- ---- 7.2: a table's title
 
@@ -146,7 +147,8 @@ head_read im p tag end = record {
 unfoldable pub head_by : List ℕ → ℕ → ℕ → Run → Head
 head_by im p tag t =
     when options_end p tag ≤? length im then
-    (when t.fits then (when tag_bit 16 tag ≤? tag_bit 8 tag then head_read im p tag t.end else head_refused p 7)
+    (when t.fits then
+    (when tag_bit 16 tag ≤? tag_bit 8 tag then head_read im p tag t.end else head_refused p 7)
     else head_refused p 6)
     else head_refused p 6
 

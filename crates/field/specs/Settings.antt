@@ -12,8 +12,8 @@ use Rattle.field.specs.declared.value.Value.{Value}
 
 -- how many decimal digits a number of at most five digits has
 unfoldable pub digit_count : ℕ → ℕ
-digit_count x = when x <? 10 then 1 else when x <? 100 then 2 else when x <? 1000 then 3 else when x <? 10000 then 4
-    else 5
+digit_count x =
+    when x <? 10 then 1 else when x <? 100 then 2 else when x <? 1000 then 3 else when x <? 10000 then 4 else 5
 
 -- the cells of a counter's biased number; 01, Fields: '-' only below 0
 unfoldable pub counted_cells : ℕ → ℕ

@@ -78,7 +78,8 @@ impl Work {
 
     // The third byte of a time, where it has seconds.
     fn seconds(self, long: bool) -> u64
-        ensures { (result ≡ when long then 65536 * get_or self.cells 2 0 else 0) × (result < 281474976710656) }
+        ensures { (result ≡ when long then 65536 * get_or self.cells 2 0 else 0)
+            × (result < 281474976710656) }
     {
         if long {
             return 65536 * self.cell(2);

@@ -50,8 +50,8 @@ fn known_to(image: &[u8], table: usize, k: usize) -> Known
 
 // Of so many lines up to line k, which is the last or not, those up to the one after it.
 fn known_next(count: usize, k: usize, last: bool) -> usize
-    ensures { result ≡ when count ≤? k then count else when last then count else when most_lines_of_table <? count
-        then count else count + 1 }
+    ensures { result ≡ when count ≤? k then count else when last then count
+        else when most_lines_of_table <? count then count else count + 1 }
 {
     if count <= k {
         return count;

@@ -27,7 +27,8 @@ pub record Numbers (im : List ℕ) : Type 0 where
   pub of_image : (extent k : ℕ) → ((refusal_of im extent ≡ k) × (k ≢ 0)) ↔ Refused im extent k
   -- (by definition) Open: 1 first, then 2 to 11
   pub of_open : (extent columns lines : ℕ)
-      → open_refusal im extent columns lines ≡ (when shape_fits columns lines then refusal_of im extent else 1)
+      → open_refusal im extent columns lines
+      ≡ (when shape_fits columns lines then refusal_of im extent else 1)
   -- (by definition) Event: 2 to 11, then 12, then 13
   pub of_event : (extent : ℕ) (s : Session) (e : ℕ)
       → event_refusal im extent s e

@@ -43,7 +43,8 @@ recorded_in es room = when recording_refusal es (length room) =? 0 then put_at 0
 -- `broken` where one of the two breaks the rules or is missing, `other` for another form
 unfoldable pub on_head : {A : Type 0} → A → A → (ℕ → ℕ → A) → List ℕ → A
 on_head broken other f s =
-    on_read broken (λ form at. when form =? 1 then on_read broken f (number_at s at) else other) (number_at s 0)
+    on_read broken (λ form at. when form =? 1 then on_read broken f (number_at s at) else other)
+    (number_at s 0)
 
 -- ---- reading: the events
 
