@@ -4,7 +4,7 @@
 #![tactic(auto)]
 
 mod fields;
-mod keys;
+mod letters;
 mod recorder;
 mod show;
 
@@ -27,7 +27,7 @@ fn sit(
     keys: &mut impl Read,
 ) -> io::Result<()> {
     let mut sheet = [0u8; Image::MAX_SHEET];
-    let mut events = [0u8; keys::MOST];
+    let mut events = [0u8; letters::MOST];
     let opened = open(image, &mut sheet, COLUMNS, LINES);
     let session = opened.session;
     if opened.refusal != 0 {
@@ -35,7 +35,7 @@ fn sit(
         return fields::print_reach(rt, image, sheet.len(), opened.refusal);
     }
     show::show(rt, image, &sheet, session)?;
-    let count = keys::play_all(rt, image, &mut sheet, session, keys, &mut events)?;
+    let count = letters::play_all(rt, image, &mut sheet, session, keys, &mut events)?;
     fields::print_fields(rt, image, &sheet)?;
     recorder::record_first(rt, &events, count, USAGE)
 }
