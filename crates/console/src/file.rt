@@ -55,15 +55,22 @@ fn name_at(rt: &(impl Env + AllocGlobal), i: usize) -> io::Result<Option<String>
     Ok(name.filter(|name| name.len() <= MAX_NAME))
 }
 
+// Says a usage line. Standard error takes text alone, so bytes that are none become the mark that Unicode has
+// for them.
+fn say_usage(rt: &(impl Eprint + AllocGlobal), usage: &[u8]) -> io::Result<()> {
+    let text = String::from_utf8_lossy(rt.alloc(), usage)?;
+    eprint!(rt; "{text}")
+}
+
 // The same, and a usage line is said where there is none.
 fn needed_name(
     rt: &(impl Env + Eprint + AllocGlobal),
     i: usize,
-    usage: &str,
+    usage: &[u8],
 ) -> io::Result<Option<String>> {
     let name = name_at(rt, i)?;
     if name.is_none() {
-        eprint!(rt; "{usage}")?;
+        say_usage(rt, usage)?;
     }
     Ok(name)
 }
@@ -97,7 +104,7 @@ fn open<R: Files + Input + Eprint + Alloc>(
 pub fn open_named<R: Files + Env + Input + Eprint + AllocGlobal>(
     rt: &R,
     i: usize,
-    usage: &str,
+    usage: &[u8],
 ) -> io::Result<Option<Source<R::Reader, R::File>>> {
     match needed_name(rt, i, usage)? {
         Some(name) => open(rt, name.as_str()),
@@ -148,7 +155,7 @@ pub fn read_named(
     rt: &(impl Files + Env + Eprint + AllocGlobal),
     i: usize,
     buffer: &mut [u8],
-    usage: &str,
+    usage: &[u8],
 ) -> io::Result<Found> {
     match needed_name(rt, i, usage)? {
         Some(name) => read(rt, name.as_str(), buffer),
@@ -189,7 +196,7 @@ pub fn write_named(
     rt: &(impl Files + Env + Eprint + AllocGlobal),
     i: usize,
     bytes: &[u8],
-    usage: &str,
+    usage: &[u8],
 ) -> io::Result<()> {
     match needed_name(rt, i, usage)? {
         Some(name) => write(rt, name.as_str(), bytes),

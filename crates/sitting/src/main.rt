@@ -18,7 +18,7 @@ use std::fs::Files;
 use std::io::Read;
 use std::{env, io};
 
-const USAGE: &str = "usage: sitting IMAGE [KEYS [RECORD]]\n";
+const USAGE: &[u8] = b"usage: sitting IMAGE [KEYS [RECORD]]\n";
 
 // Plays keys on an image, and prints what comes of it.
 fn sit(

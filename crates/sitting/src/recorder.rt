@@ -17,7 +17,7 @@ fn write_first(
     rt: &(impl Files + Env + Eprint + AllocGlobal),
     room: &[u8],
     length: usize,
-    usage: &str,
+    usage: &[u8],
 ) -> io::Result<()> {
     if length <= room.len() {
         write_named(rt, RECORD, &room[0..length], usage)?;
@@ -29,7 +29,7 @@ fn write_first(
 fn write_record(
     rt: &(impl Files + Env + Print + Eprint + AllocGlobal),
     events: &[u8],
-    usage: &str,
+    usage: &[u8],
 ) -> io::Result<()> {
     let mut room = [0u8; ROOM];
     let recorded = record(events, &mut room);
@@ -44,7 +44,7 @@ pub fn record_first(
     rt: &(impl Files + Env + Print + Eprint + AllocGlobal),
     events: &[u8],
     count: usize,
-    usage: &str,
+    usage: &[u8],
 ) -> io::Result<()> {
     if RECORD < env::args(rt)?.len() && count <= events.len() {
         write_record(rt, &events[0..count], usage)?;
