@@ -30,8 +30,8 @@ PLAIN = re.compile(r"[a-z][A-Za-z0-9'₀-₉_-]*$")
 
 
 def snake(name):
-    s = re.sub(r"(?<=[a-z0-9'])([A-Z])", lambda m: "_" + m[1].lower(), name)
-    return s.replace("getD", "get_or").replace("-", "_").lower() if s != name or "-" in name else name
+    s = re.sub(r"(?<=[a-z0-9'])([A-Z])", lambda m: "_" + m[1].lower(), name.replace("getD", "get_or"))
+    return s.replace("-", "_").lower() if s != name or "-" in name else name
 
 
 def read(p):

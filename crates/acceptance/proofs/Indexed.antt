@@ -10,7 +10,7 @@ use borrow.Author.Tests.{ltb-true, ltb-false}
 use Rattle.laws.specs.Choice.{◌<?◌}
 use Rattle.laws.specs.Overwrite.{fit}
 use Rattle.laws.proofs.Cases.{by_test, if_ind, if_lt}
-use Rattle.laws.proofs.Lists.{get_d_left, get_d_right}
+use Rattle.laws.proofs.Lists.{get_or_left, get_or_right}
 use Rattle.laws.proofs.Overwriting.{length_fit, fit_at, take_fit}
 use Rattle.cmf.specs.Limits.{most_fields}
 use Rattle.cmf.specs.declared.title.Title.{Title}
@@ -96,9 +96,9 @@ module _ (xs : List ℕ) where
       ap (λ (ns : List ℕ). get_or ns i 0) (numbers_join (listed xs k) (entry_at xs k ∷ []))
       ∙ by_test (i <? 3 * k)
       (λ e. let l = ltb-true i (3 * k) e in
-      get_d_left (numbers_of (listed xs k)) (numbers_of (entry_at xs k ∷ [])) i 0 (omega (arith, listed_long k)) ∙ numbers_at_lem k i l c)
+      get_or_left (numbers_of (listed xs k)) (numbers_of (entry_at xs k ∷ [])) i 0 (omega (arith, listed_long k)) ∙ numbers_at_lem k i l c)
       (λ e. let l = ltb-false i (3 * k) e in
-      get_d_right (numbers_of (listed xs k)) (numbers_of (entry_at xs k ∷ [])) i 0 (omega (arith, listed_long k))
+      get_or_right (numbers_of (listed xs k)) (numbers_of (entry_at xs k ∷ [])) i 0 (omega (arith, listed_long k))
       ∙ (let z : i - length (numbers_of (listed xs k)) ≡ i - 3 * k = omega (arith, listed_long k) in
       let y : 3 * k + (i - 3 * k) ≡ i = omega arith in
       rw z (rw y at (entry_numbers k (i - 3 * k) (omega arith) (omega arith)))))

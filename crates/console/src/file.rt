@@ -1,10 +1,10 @@
 // Files that the arguments name. What cannot be opened, read or written is said in one line on standard
 // error, unless it is read quietly.
 use cmf::image::Image;
-use std::env::Env;
+use std::env::{Env, FillError};
 use std::fs::Files;
 use std::io::Read;
-use std::{env, fs, io};
+use std::{fs, io, str};
 
 // Room for an image: one byte more than it may have, so that a longer file is refused.
 pub const IMAGE_ROOM: usize = Image::MAX_BYTES + 1;
@@ -49,10 +49,28 @@ pub fn fail(rt: &(impl Eprint + Alloc), what: &str, error: io::Error) -> io::Res
     eprintln!(rt; "{what}: {}", without_number(text.as_str()))
 }
 
-// The file name that argument i is; none where the argument is missing or too long.
+// Whether there is an argument i.
+pub fn is_given(rt: &impl Env, i: usize) -> bool {
+    let mut room = [0u8; 1];
+    !matches!(rt.arg(i, &mut room), Err(FillError::NotPresent))
+}
+
+// Bytes as a text of its own; none where they are no text.
+fn text_of(rt: &impl AllocGlobal, bytes: &[u8]) -> io::Result<Option<String>> {
+    match str::from_utf8(bytes) {
+        Ok(text) => Ok(Some(format!(in rt.alloc(); "{text}")?)),
+        Err(_) => Ok(None),
+    }
+}
+
+// The file name that argument i is; none where the argument is missing or too long, or is no text, as names
+// are here.
 fn name_at(rt: &(impl Env + AllocGlobal), i: usize) -> io::Result<Option<String>> {
-    let name = env::args(rt)?.nth(i);
-    Ok(name.filter(|name| name.len() <= MAX_NAME))
+    let mut room = [0u8; MAX_NAME];
+    match rt.arg(i, &mut room) {
+        Ok(length) => text_of(rt, &room[..length]),
+        Err(_) => Ok(None),
+    }
 }
 
 // Says a usage line. Standard error takes text alone, so bytes that are none become the mark that Unicode has

@@ -11,7 +11,7 @@ use mathlib.Core.Bool.{Bool, true, false}
 use Rattle.laws.specs.Choice.{when◌then◌else◌, ◌and◌, ◌=?◌, ◌<?◌}
 use Rattle.laws.specs.Digits.{digits_of}
 use Rattle.laws.proofs.Cases.{if_ind, if_max, if_ne, if_lt, if_ge, and_second}
-use Rattle.laws.proofs.Lists.{get_d_left, get_d_right}
+use Rattle.laws.proofs.Lists.{get_or_left, get_or_right}
 use Rattle.laws.proofs.Numerals.{length_digits, digit_below}
 use Rattle.field.specs.Formats.{format_of, signs_of, digits_in, base_of, limit_of, half_of, top_of, numeral_of, bits_in, bits_of}
 use Rattle.field.specs.Calendar.{month_end, full_year}
@@ -76,14 +76,14 @@ module _ (n : Numeral) (s : Sound n) (x : ℕ) where
   sign_at i hi =
       let z : i ≡ 0 = omega (arith, s.signs) in
       let l : i < length (front n x) = omega (arith, length_front) in
-      get_d_left (front n x) _ i 0 l ∙ rw (z, if_ne n.signs 0 [] (sign_of n x ∷ []) (λ e. omega arith))
+      get_or_left (front n x) _ i 0 l ∙ rw (z, if_ne n.signs 0 [] (sign_of n x ∷ []) (λ e. omega arith))
 
   -- a digit cell holds its digit
   pub digit_at : (i : ℕ) → n.signs ≤ i → get_or (in_digits n x) i 0 ≡ get_or (digits_of n.base n.digits (distance n x)) (i - n.signs) 0
   unfolding in_digits
   digit_at i hi =
       let l : length (front n x) ≤ i = omega (arith, length_front) in
-      get_d_right (front n x) _ i 0 l ∙ rw length_front
+      get_or_right (front n x) _ i 0 l ∙ rw length_front
 
   -- the cells of any number are a sign and digits
   pub digit_cells_lem : DigitCells n (in_digits n x)

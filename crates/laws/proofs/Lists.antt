@@ -21,13 +21,13 @@ unfolding word_at
 word_past s at h = omega (arith, byte_past s at h, byte_past s (at + 1) (omega arith))
 
 -- in a join
-pub get_d_left : (s t : List ℕ) (i d : ℕ) → i < length s → get_or (s ++ t) i d ≡ get_or s i d
-get_d_left s t i d p = get_or-append s t d i p
+pub get_or_left : (s t : List ℕ) (i d : ℕ) → i < length s → get_or (s ++ t) i d ≡ get_or s i d
+get_or_left s t i d p = get_or-append s t d i p
 
-pub get_d_right : (s t : List ℕ) (i d : ℕ) → length s ≤ i → get_or (s ++ t) i d ≡ get_or t (i - length s) d
-get_d_right [] t i d p = let e : i - 0 ≡ i = omega arith in rw e
-get_d_right (x ∷ s) t zero d p = absurd (not-suc-le-zero p)
-get_d_right (x ∷ s) t (suc i) d p = let e : suc i - suc (length s) ≡ i - length s = omega arith in rw e (get_d_right s t i d (le_of_suc-le-suc p))
+pub get_or_right : (s t : List ℕ) (i d : ℕ) → length s ≤ i → get_or (s ++ t) i d ≡ get_or t (i - length s) d
+get_or_right [] t i d p = let e : i - 0 ≡ i = omega arith in rw e
+get_or_right (x ∷ s) t zero d p = absurd (not-suc-le-zero p)
+get_or_right (x ∷ s) t (suc i) d p = let e : suc i - suc (length s) ≡ i - length s = omega arith in rw e (get_or_right s t i d (le_of_suc-le-suc p))
 
 pub drop_take : (n k : ℕ) (l : List ℕ) → drop n (take (n + k) l) ≡ take k (drop n l)
 drop_take zero k l = rw zero-add

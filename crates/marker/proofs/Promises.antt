@@ -105,7 +105,7 @@ module _ (fs : List Field) where
       (λ e. rw (if_true q.points 0 e, if_true (points_in qs) 0 e, if_true (q.points + points_in qs) 0 e))
       (λ e. rw (if_false q.points 0 e, if_false (points_in qs) 0 e, if_false (q.points + points_in qs) 0 e) (omega arith))
 
-  -- a one_byte field is at each place of a key that fits
+  -- a one-byte field is at each place of a key that fits
   each_has : (earlier : List ℕ) (qs : List Question) → questions_fit fs earlier qs ≡ true → (q : Question) → Memᴰ q qs → has_field q.place.0 fs ≡ true
   unfolding questions_fit question_fits
   each_has earlier [] h q m = absurd (Memᴰ.not-nil m)
@@ -165,7 +165,7 @@ module _ (im : List ℕ) where
 
   -- ---- sheets
 
-  -- the byte at a one_byte field's place is the field's own
+  -- the byte at a one-byte field's place is the field's own
   byte_own : (p : ℕ) (f : Field) (s : List ℕ) → ByteFieldAt im p f → byte_at s p ≡ get_or (own_bytes f s) 0 0
   byte_own p f s n =
       let z : p + 0 ≡ p = omega arith in

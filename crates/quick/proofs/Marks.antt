@@ -119,10 +119,10 @@ module _ (extent : ℕ) (old new : List ℕ) (from i y : ℕ) (l : i / 64 < leng
       let m' : get_or new (i / 64) 0 / 2 ^ (j % 64) % 2 ≡ 1 = rw q m in
       rw (← q, get_or-set_same new (i / 64) (bit_or (get_or new (i / 64) 0) y) 0 l, or_bit (j % 64) (get_or new (i / 64) 0) y, m')
       (let z : y / 2 ^ (j % 64) % 2 ≤ 1 = omega arith in omega arith))
-      (λ e. let q = eqb-false (i / 64) (j / 64) e in get_d_other (λ z. q (sym z)) j m)
+      (λ e. let q = eqb-false (i / 64) (j / 64) e in get_or_other (λ z. q (sym z)) j m)
     where
-      get_d_other : {k : ℕ} → (k ≡ i / 64 → ⊥) → (j : ℕ) → get_or new k 0 / 2 ^ (j % 64) % 2 ≡ 1 → get_or next k 0 / 2 ^ (j % 64) % 2 ≡ 1
-      get_d_other {k} d j m = rw (get_or-set_other new (i / 64) k (bit_or (get_or new (i / 64) 0) y) 0 d) m
+      get_or_other : {k : ℕ} → (k ≡ i / 64 → ⊥) → (j : ℕ) → get_or new k 0 / 2 ^ (j % 64) % 2 ≡ 1 → get_or next k 0 / 2 ^ (j % 64) % 2 ≡ 1
+      get_or_other {k} d j m = rw (get_or-set_other new (i / 64) k (bit_or (get_or new (i / 64) 0) y) 0 d) m
 
   pub claimed_next : from ≤ i → i < extent → (mark_at new i ≡ 1 → ⊥) → Claimed extent old new from (i - from) → Claimed extent old next from ((i + 1) - from)
   claimed_next h s z c = record { inside = omega arith; free = free; marked = marked; kept = λ j m. stays j (c.kept j m) }

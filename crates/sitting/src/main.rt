@@ -10,13 +10,13 @@ mod show;
 
 use cmf::image::Image;
 use console::display::{COLUMNS, LINES};
-use console::file::{IMAGE_ROOM, Source, found_in, open_named, read_named};
+use console::file::{IMAGE_ROOM, Source, found_in, is_given, open_named, read_named};
 use console::words::say_refusal;
 use handset::open::open;
 use std::env::Env;
 use std::fs::Files;
+use std::io;
 use std::io::Read;
-use std::{env, io};
 
 const USAGE: &[u8] = b"usage: sitting IMAGE [KEYS [RECORD]]\n";
 
@@ -44,7 +44,7 @@ fn sit(
 fn keys_from<R: Files + Env + Input + Eprint + AllocGlobal>(
     rt: &R,
 ) -> io::Result<Option<Source<R::Reader, R::File>>> {
-    if env::args(rt)?.len() < 3 {
+    if !is_given(rt, 2) {
         return Ok(Some(Source::Standard(rt.reader())));
     }
     open_named(rt, 2, USAGE)

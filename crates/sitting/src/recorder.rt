@@ -1,10 +1,10 @@
 // The record of a sitting, in the file that the third argument names.
-use console::file::write_named;
+use console::file::{is_given, write_named};
 use console::words::say_refusal;
 use record::recording::{MAX_EVENTS, record};
 use std::env::Env;
 use std::fs::Files;
-use std::{env, io};
+use std::io;
 
 // The third argument.
 const RECORD: usize = 3;
@@ -46,7 +46,7 @@ pub fn record_first(
     count: usize,
     usage: &[u8],
 ) -> io::Result<()> {
-    if RECORD < env::args(rt)?.len() && count <= events.len() {
+    if is_given(rt, RECORD) && count <= events.len() {
         write_record(rt, &events[0..count], usage)?;
     }
     Ok(())
