@@ -11,7 +11,7 @@ use Rattle.laws.proofs.Cases.{if_ind, if_max, if_min}
 use Rattle.field.specs.Formats.{signs_of, digits_in, base_of, limit_of, half_of, top_of, numeral_of, bits_in, bits_of}
 use Rattle.field.specs.Profiles.{profile_of}
 use Rattle.field.specs.Cells.{distance}
-use Rattle.field.specs.Sound.{Sound}
+use Rattle.field.specs.Sound.{Sound, Based}
 use Rattle.field.specs.declared.kind.Format.{Format}
 use Rattle.field.specs.declared.kind.Kind.{Kind}
 use Rattle.field.specs.declared.numeral.Numeral.{Numeral}
@@ -119,7 +119,6 @@ pub format_sound : (f : Format) → Sound (numeral_of f)
 unfolding top_of
 format_sound f =
     record {
-      bases = λ t s. absurd (base_known f t s);
       two = omega (arith, base_ge f);
       sixteen = base_le f;
       signs = signs_le f;
@@ -136,7 +135,6 @@ format_sound f =
 pub bits_sound : (n : ℕ) → Sound (bits_of n)
 bits_sound n =
     record {
-      bases = λ t s. refl;
       two = lit≤ tt;
       sixteen = lit≤ tt;
       signs = lit≤ tt;
@@ -148,6 +146,13 @@ bits_sound n =
       below = power_pos n;
       plain = λ e. refl;
     }
+
+-- both are written to one of the bases
+pub format_based : (f : Format) → Based (numeral_of f)
+format_based f = record { bases = λ t s. absurd (base_known f t s) }
+
+pub bits_based : (n : ℕ) → Based (bits_of n)
+bits_based n = record { bases = λ t s. refl }
 
 -- how far a number is from 0 fits 32 bits
 pub distance_small : {n : Numeral} → Sound n → (x : ℕ) → distance n x < 4294967296

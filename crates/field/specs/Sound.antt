@@ -4,7 +4,6 @@ use Rattle.std.specs.Prelude.{◌+◌, ◌^◌, ◌≤◌, ◌<◌, ◌≡◌}
 use Rattle.field.specs.declared.numeral.Numeral.{Numeral}
 
 pub record Sound (n : Numeral) : Type 0 where
-  pub bases : (n.base ≡ 10 → ⊥) → (n.base ≡ 16 → ⊥) → n.base ≡ 2
   pub two : 2 ≤ n.base
   pub sixteen : n.base ≤ 16
   pub signs : n.signs ≤ 1
@@ -15,3 +14,7 @@ pub record Sound (n : Numeral) : Type 0 where
   pub above : n.above < n.base ^ n.digits
   pub below : n.below < n.base ^ n.digits
   pub plain : n.signs ≡ 0 → n.below ≡ 0
+
+-- the bases that numbers are written to: 10, 16 and 2
+pub record Based (n : Numeral) : Type 0 where
+  pub bases : (n.base ≡ 10 → ⊥) → (n.base ≡ 16 → ⊥) → n.base ≡ 2

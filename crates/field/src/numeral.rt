@@ -6,7 +6,7 @@ ghost use Rattle.field.specs.Formats.{format_of, signs_of, digits_in, base_of, l
 ghost use Rattle.field.specs.Formats.{numeral_of, bits_in, bits_of};
 ghost use Rattle.field.specs.Cells.{spans, distance, sign_of, in_digits, shown_by, minus, storable};
 ghost use Rattle.field.specs.Cells.{of_digits, work_of};
-ghost use Rattle.field.specs.Sound.{Sound};
+ghost use Rattle.field.specs.Sound.{Sound, Based};
 
 use crate::kind::{Format, Kind};
 use crate::work::Work;
@@ -278,7 +278,8 @@ impl Numeral {
 
     // The number as a working copy.
     pub(crate) fn in_digits(self, x: u64) -> Work
-        requires { Sound self }
+        requires sound { Sound self }
+        requires based { Based self }
         ensures { result ≡ work_of (in_digits self x) }
     {
         let size = self.distance(x) as u32;

@@ -12,14 +12,14 @@ use Rattle.field.proofs.numeral.Numeral.in_digits.Goals as goal
 use Rattle.field.proofs.numeral.Numeral.in_digits.Goals.{then-self-ne0, else-self-ne0}
 
 pub overflow_cast-size : goal.overflow_cast-size
-overflow_cast-size c = omega (arith, c.distance-size.ensures, distance_small c.requires c.args.x)
+overflow_cast-size c = omega (arith, c.distance-size.ensures, distance_small c.requires.sound c.args.x)
 
 pub slice_bounds-write_digits-end : goal.slice_bounds-write_digits-end
 slice_bounds-write_digits-end c = elim c.if-self-ne0.branch [ then-self-ne0 w ↦ rw w.cells-is | else-self-ne0 w ↦ rw w.cells-is ]
 
 pub write_digits-requires : goal.write_digits-requires
-write_digits-requires c = let s = c.requires in
-    (s.bases, elim c.if-self-ne0.branch [ then-self-ne0 w ↦ rw w.cells-is s.cells | else-self-ne0 w ↦ rw w.cells-is s.cells ])
+write_digits-requires c = let s = c.requires.sound in
+    (c.requires.based.bases, elim c.if-self-ne0.branch [ then-self-ne0 w ↦ rw w.cells-is s.cells | else-self-ne0 w ↦ rw w.cells-is s.cells ])
 
 pub returns : goal.returns
 unfolding in_digits work_of fit when◌then◌else◌
@@ -30,4 +30,4 @@ returns c = let a = c.args in
       | else-self-ne0 w ↦ w.cells-is ∙ rw (eq-eqb a.self.signs 0 w.if-self-ne0.false)
     ] in
     let written = rw (begun, c.distance-size.ensures) at c.write_digits.ensures in
-    λ j. record { cells = (written ∙ after_sign a.self.signs (sign_of a.self a.x) _ c.requires.signs) j; at = 0 }
+    λ j. record { cells = (written ∙ after_sign a.self.signs (sign_of a.self a.x) _ c.requires.sound.signs) j; at = 0 }

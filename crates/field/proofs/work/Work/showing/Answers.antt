@@ -1,14 +1,14 @@
 -- Each return is the case of the definition that the tests on its path choose.
 use Rattle.field.specs.Cells.{cells_of, work_of}
 use Rattle.laws.specs.Overwrite.{fit}
-use Rattle.field.proofs.Bounds.{format_sound, bits_sound}
+use Rattle.field.proofs.Bounds.{format_sound, bits_sound, format_based, bits_based}
 use Rattle.field.proofs.work.Work.showing.Goals as goal
 
 pub in_digits-requires : goal.in_digits-requires
-in_digits-requires c = rw c.numeral.ensures (format_sound _)
+in_digits-requires c = record { sound = rw c.numeral.ensures (format_sound _); based = rw c.numeral.ensures (format_based _) }
 
 pub in_digits-requires-in-Switch : goal.in_digits-requires-in-Switch
-in_digits-requires-in-Switch c = rw c.of_bits.ensures (bits_sound _)
+in_digits-requires-in-Switch c = record { sound = rw c.of_bits.ensures (bits_sound _); based = rw c.of_bits.ensures (bits_based _) }
 
 pub returns-in-Integer : goal.returns-in-Integer
 unfolding cells_of
