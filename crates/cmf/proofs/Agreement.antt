@@ -7,6 +7,7 @@ use lib.ListN.{length}
 use Rattle.laws.specs.Bytes.{byte_at}
 use Rattle.laws.specs.Choice.{when◌then◌else◌, ◌=?◌}
 use Rattle.field.specs.declared.record.Field.{Field}
+use Rattle.cmf.specs.Refusals.{refusal_number}
 use Rattle.cmf.specs.Layouts.{Text, Aligned, Component, code, edit_bit, last_bit}
 use Rattle.cmf.specs.Grammar.{Head, Password, is_last, has_submenu, has_password, next_line, submenu_table, password_at}
 use Rattle.cmf.specs.Readers.{odd_from, even_from, title_at, first_at, back_at, head_at, component_at}
@@ -14,7 +15,7 @@ use Rattle.cmf.specs.Places.{held_by}
 
 -- what a component of the grammar reads as
 pub record ComponentIs (im : List ℕ) (at end : ℕ) (fs : List Field) : Type 0 where
-  pub refusal : (component_at im at).refusal ≡ 0
+  pub refusal : refusal_number (component_at im at).refusal ≡ 0
   pub ends : (component_at im at).end ≡ end
   pub fields : held_by (component_at im at) ≡ fs
 
@@ -30,7 +31,7 @@ pub record ComponentReads (im : List ℕ) (at : ℕ) : Type 0 where
 
 -- what a head of the grammar reads as
 pub record HeadIs (im : List ℕ) (n before p end : ℕ) : Type 0 where
-  pub refusal : (head_at im p).refusal ≡ 0
+  pub refusal : refusal_number (head_at im p).refusal ≡ 0
   pub good : (head_at im p).typeable ≡ true
   pub ends : (head_at im p).end ≡ end
   pub first : n ≡ 0 → first_at im p ≡ true
@@ -63,7 +64,7 @@ pub record TitleReads (im : List ℕ) (at : ℕ) : Type 0 where
 
 -- what a text of the grammar reads as, where a title is expected
 pub record TitleIs (im : List ℕ) (at end : ℕ) : Type 0 where
-  pub refusal : (title_at im at).refusal ≡ 0
+  pub refusal : refusal_number (title_at im at).refusal ≡ 0
   pub ends : (title_at im at).end ≡ end
 
 -- a place that is aligned after another
@@ -74,11 +75,11 @@ pub record PlaceIs (im : List ℕ) (at place from : ℕ) : Type 0 where
 -- the readers and the grammar agree
 pub record Agree (im : List ℕ) : Type 0 where
   pub component_is : {at end : ℕ} {fs : List Field} → Component im at end fs → ComponentIs im at end fs
-  pub component_reads : (at : ℕ) → (component_at im at).refusal ≡ 0 → ComponentReads im at
+  pub component_reads : (at : ℕ) → refusal_number (component_at im at).refusal ≡ 0 → ComponentReads im at
   pub head_is : {n before p end : ℕ} → Head im n before p end → HeadIs im n before p end
-  pub head_reads : (p : ℕ) → (head_at im p).refusal ≡ 0 → HeadReads im p
+  pub head_reads : (p : ℕ) → refusal_number (head_at im p).refusal ≡ 0 → HeadReads im p
   pub title_is : {at end : ℕ} → Text im at end → TitleIs im at end
-  pub title_reads : (at : ℕ) → (title_at im at).refusal ≡ 0 → TitleReads im at
+  pub title_reads : (at : ℕ) → refusal_number (title_at im at).refusal ≡ 0 → TitleReads im at
   pub odd_is : {at place : ℕ} → Aligned im 1 at place → PlaceIs im at place (odd_from at)
   pub even_is : {at place : ℕ} → Aligned im 0 at place → PlaceIs im at place (even_from at)
   pub odd_aligned : (at place : ℕ) → PlaceIs im at place (odd_from at) → place < length im → Aligned im 1 at place

@@ -18,6 +18,7 @@ use Rattle.field.specs.Sheet.{size_of}
 use Rattle.field.specs.Settings.{settings_fit, kind_fits}
 use Rattle.field.specs.declared.kind.Kind.TheVariants.{Integer}
 use Rattle.field.specs.declared.record.Field.{Field}
+use Rattle.cmf.specs.Refusals.{refusal_number}
 use Rattle.cmf.specs.Layouts.{Texts, Component, FixedLayout, code, GoodSettings, edit_bit, last_bit, field_with}
 use Rattle.cmf.specs.Readers.{run_of, fixed_bytes, text_count, given, kind_at, default_place, sheet_place_at, field_by, component_at}
 use Rattle.cmf.specs.declared.text.Run.{Run}
@@ -219,10 +220,10 @@ module _ (im : List ℕ) where
   component_is c =
       let r = row c in
       let e = laid_read im r.laid in
-      record { refusal = rw e (if_true _ _ r.laid.settings); ends = rw e; fields = rw e r.fields }
+      record { refusal = rw e (ap refusal_number (if_true _ _ r.laid.settings)); ends = rw e; fields = rw e r.fields }
 
   -- what is known of a component that reads with code 0
-  pub component_reads : (at : ℕ) → (component_at im at).refusal ≡ 0 → ComponentReads im at
+  pub component_reads : (at : ℕ) → refusal_number (component_at im at).refusal ≡ 0 → ComponentReads im at
   component_reads at c =
       let f = read_laid im at c in
       let a = f.laid in

@@ -15,23 +15,24 @@ use Rattle.cmf.specs.Places.{lines_from, lines_of, components_from, line_from, l
 use Rattle.cmf.specs.declared.title.Title.{Title}
 use Rattle.cmf.specs.declared.head.Head.{Head}
 use Rattle.cmf.specs.declared.component.Component.{Component}
-use Rattle.cmf.specs.declared.place.Found.{Found}
-use Rattle.cmf.specs.declared.place.Found.TheVariants.{At, Nothing}
+use Rattle.std.specs.Prelude.{Option}
+use Rattle.std.specs.Prelude.{Some, None}
 use Rattle.cmf.proofs.Turning.{line_turn}
 
 -- what is found by a test, taken apart
-pub found_none : {t : Bool} (p : ℕ) {f : Found} → f ≡ found_if t p → f ≡ Nothing → t ≡ false
-found_none {t} p {f} e n = by_test t (λ y. let z : Nothing ≡ At (record { 0 = p }) = sym n ∙ e ∙ if_true _ _ y in absurd (no z)) (λ y. y)
+pub found_none : {t : Bool} (p : ℕ) {f : Option ImagePlace} → f ≡ found_if t p → f ≡ None → t ≡ false
+found_none {t} p {f} e n =
+    by_test t (λ y. let z : ◌≡◌ {A = Option ImagePlace} None (Some (record { 0 = p })) = sym n ∙ e ∙ if_true _ _ y in absurd (no z)) (λ y. y)
   where
-    no : Nothing ≡ At (record { 0 = p }) → ⊥
+    no : ◌≡◌ {A = Option ImagePlace} None (Some (record { 0 = p })) → ⊥
     no z = let y : ◌≡◌ {A = ℕ} 0 1 = cc in omega arith
 
-pub found_at : {t : Bool} {p : ℕ} {f : Found} (q : ImagePlace) → f ≡ found_if t p → f ≡ At q → (t ≡ true) × (q.0 ≡ p)
+pub found_at : {t : Bool} {p : ℕ} {f : Option ImagePlace} (q : ImagePlace) → f ≡ found_if t p → f ≡ Some q → (t ≡ true) × (q.0 ≡ p)
 found_at {t} {p} {f} q e n =
-    by_test t (λ y. (y, let z : At q ≡ At (record { 0 = p }) = sym n ∙ e ∙ if_true _ _ y in let w : q ≡ record { 0 = p } = cc in ap (λ (i : ImagePlace). i.0) w))
+    by_test t (λ y. (y, let z : ◌≡◌ {A = Option ImagePlace} (Some q) (Some (record { 0 = p })) = sym n ∙ e ∙ if_true _ _ y in let w : ◌≡◌ {A = ImagePlace} q (record { 0 = p }) = cc in ap (λ (i : ImagePlace). i.0) w))
     (λ y. absurd (no (sym n ∙ e ∙ if_false _ _ y)))
   where
-    no : At q ≡ Nothing → ⊥
+    no : ◌≡◌ {A = Option ImagePlace} (Some q) None → ⊥
     no z = let y : ◌≡◌ {A = ℕ} 0 1 = cc in omega arith
 
 -- ---- lines
@@ -55,11 +56,11 @@ lines_few im t = lines_up_to im 100 _
 
 module _ (im : List ℕ) where
   -- the line that is so many lines further on from p, where m of them at least are looked for after it
-  abbrev pub ahead : ℕ → ℕ → ℕ → Found
+  abbrev pub ahead : ℕ → ℕ → ℕ → Option ImagePlace
   ahead m left p = found_if (left <? length (lines_from im (m + left) p)) (line_from im left p)
 
   -- no table has a line so far down
-  pub reach_far : (t k : ℕ) → 99 < k → Nothing ≡ line_found im t k
+  pub reach_far : (t k : ℕ) → 99 < k → None ≡ line_found im t k
   reach_far t k h = sym (if_ge k (line_count im t) _ _ (omega (arith, lines_few im t)))
 
   module _ (m left p : ℕ) (h : Head) (l : 0 < left) (e : h ≡ head_at im p) where
@@ -68,7 +69,7 @@ module _ (im : List ℕ) where
     lines_one = let z : m + left ≡ suc (m + (left - 1)) = omega arith in rw (z, e)
 
     -- the last line comes before the one that is looked for
-    pub reach_last : h.last ≡ true → ahead m left p ≡ Nothing
+    pub reach_last : h.last ≡ true → ahead m left p ≡ None
     reach_last t =
         let o = lines_one ∙ ap (λ (ps : List ℕ). suc (length ps)) (if_true [] (lines_from im (m + (left - 1)) h.next.0) t) in
         if_ge left (length (lines_from im (m + left) p)) _ _ (omega arith)
@@ -81,7 +82,7 @@ module _ (im : List ℕ) where
           line_turn im left p h.next.0 l (ap (λ (x : Head). x.next.0) e),
         )
 
-  pub reach_here : (m left p : ℕ) → 0 < m → left ≤ 0 → ahead m left p ≡ At (record { 0 = p })
+  pub reach_here : (m left p : ℕ) → 0 < m → left ≤ 0 → ahead m left p ≡ Some (record { 0 = p })
   unfolding lines_from line_from
   reach_here m left p h l =
       let z : left ≡ 0 = omega arith in
@@ -98,14 +99,14 @@ module _ (im : List ℕ) where
 module _ (im : List ℕ) where
   module _ (left p : ℕ) (c : Component) (h : 0 < left) (e : c ≡ component_at im p) where
     editable_one : first_editable im (components_from im left p)
-        ≡ (when c.editable then At (record { 0 = p }) else first_editable im (when c.last then [] else components_from im (left - 1) c.next.0))
+        ≡ (when c.editable then Some (record { 0 = p }) else first_editable im (when c.last then [] else components_from im (left - 1) c.next.0))
     unfolding first_editable components_from
     editable_one = let z : left ≡ suc (left - 1) = omega arith in ap (λ (n : ℕ). first_editable im (components_from im n p)) z ∙ rw e
 
-    pub editable_here : c.editable ≡ true → first_editable im (components_from im left p) ≡ At (record { 0 = p })
+    pub editable_here : c.editable ≡ true → first_editable im (components_from im left p) ≡ Some (record { 0 = p })
     editable_here t = editable_one ∙ if_true _ _ t
 
-    pub editable_last : c.editable ≡ false → c.last ≡ true → first_editable im (components_from im left p) ≡ Nothing
+    pub editable_last : c.editable ≡ false → c.last ≡ true → first_editable im (components_from im left p) ≡ None
     unfolding first_editable
     editable_last t l = editable_one ∙ if_false _ _ t ∙ ap (λ (r : List ℕ). first_editable im r) (if_true _ _ l)
 
@@ -113,16 +114,16 @@ module _ (im : List ℕ) where
         → first_editable im (components_from im (left - 1) c.next.0) ≡ first_editable im (components_from im left p)
     editable_next t l = sym (editable_one ∙ if_false _ _ t ∙ ap (λ (r : List ℕ). first_editable im r) (if_false _ _ l))
 
-  pub editable_done : (left p : ℕ) → left ≤ 0 → first_editable im (components_from im left p) ≡ Nothing
+  pub editable_done : (left p : ℕ) → left ≤ 0 → first_editable im (components_from im left p) ≡ None
   unfolding first_editable components_from
   editable_done left p h = let z : left ≡ 0 = omega arith in rw z
 
   module _ (p : ℕ) (c : Component) (e : c ≡ component_at im p) where
-    pub next_none : c.last ≡ true → Nothing ≡ next_editable im p
+    pub next_none : c.last ≡ true → None ≡ next_editable im p
     unfolding next_editable
     next_none h = sym (rw (← e) (if_true _ _ h))
 
-    pub next_found : (f : Found) → c.last ≡ false → f ≡ first_editable im (rest_of_line im c.next.0) → f ≡ next_editable im p
+    pub next_found : (f : Option ImagePlace) → c.last ≡ false → f ≡ first_editable im (rest_of_line im c.next.0) → f ≡ next_editable im p
     unfolding next_editable
     next_found f h g = g ∙ sym (rw (← e) (if_false _ _ h))
 

@@ -12,6 +12,8 @@ use Rattle.laws.specs.Choice.{◌=?◌, ◌<?◌, ◌≤?◌}
 use Rattle.laws.specs.Bytes.{byte_at, room}
 use Rattle.laws.proofs.Cases.{if_ind, if_true, if_eq, if_ne, by_test}
 use Rattle.laws.proofs.Rooms.{room_le, le_room}
+use Rattle.cmf.specs.Refusals.{refusal_number}
+use Rattle.cmf.specs.declared.refusal.Refusal.TheVariants as fault
 use Rattle.cmf.specs.Grammar.{has_submenu, has_password, password_at, Digits}
 use Rattle.cmf.specs.Forms.{Cut, HeadCut, HeadWrong}
 use Rattle.cmf.specs.Readers.{texts_from, title_by, title_at, tag_bit, options_end, passwords, head_refused, head_read, head_by, head_at}
@@ -67,8 +69,8 @@ module _ (im : List ℕ) where
 
   -- a title reads with 6 exactly where its text is cut, else with 0
   pub data TitleView (t : ℕ) : Title → Type 0 where
-    cut : {x : Title} → Cut im 1 t → x.refusal ≡ 6 → TitleView t x
-    whole : {x : Title} → (Cut im 1 t → ⊥) → x.refusal ≡ 0 → TitleView t x
+    cut : {x : Title} → Cut im 1 t → refusal_number x.refusal ≡ 6 → TitleView t x
+    whole : {x : Title} → (Cut im 1 t → ⊥) → refusal_number x.refusal ≡ 0 → TitleView t x
 
   pub title_view : (t : ℕ) → TitleView t (title_at im t)
   unfolding title_at title_by
@@ -88,8 +90,8 @@ module _ (im : List ℕ) where
 
   -- a head is cut, or wrong, or read
   pub data HeadView (p : ℕ) : head.Head → Type 0 where
-    cut : HeadCut im p → HeadView p (head_refused p 6)
-    wrong : (HeadCut im p → ⊥) → HeadWrong im p → HeadView p (head_refused p 7)
+    cut : HeadCut im p → HeadView p (head_refused p fault.Cut)
+    wrong : (HeadCut im p → ⊥) → HeadWrong im p → HeadView p (head_refused p fault.Form)
     whole : (HeadCut im p → ⊥) → (HeadWrong im p → ⊥) → (end : ℕ) → HeadView p (head_read im p (byte_at im p) end)
 
   module _ (p : ℕ) where

@@ -10,6 +10,7 @@ use borrow.Author.Tests.{ltb-true, leb-true, le-leb, eqb-true, eqb-false, eq-eqb
 use Rattle.laws.specs.Choice.{◌=?◌, ◌<?◌, ◌≤?◌}
 use Rattle.laws.specs.Bytes.{byte_at}
 use Rattle.laws.proofs.Cases.{if_ind, if_true, if_lt, if_le, if_eq, if_ne, by_test, and_i, and_l, and_r}
+use Rattle.cmf.specs.Refusals.{refusal_number}
 use Rattle.cmf.specs.Limits.{longest_password}
 use Rattle.cmf.specs.Layouts.{Texts}
 use Rattle.cmf.specs.Grammar.{is_first, is_last, has_submenu, has_password, password_at, Digits, Password, Head}
@@ -107,7 +108,7 @@ module _ (im : List ℕ) where
   -- a head that is read is laid out so: its options, and then the whole
   options_laid :
       (p : ℕ) → p < length im → byte_at im p < 32 →
-      (head_by im p (byte_at im p) (texts_from im (passwords (byte_at im p)) (options_end p (byte_at im p)) 0)).refusal ≡ 0 → Found p
+      refusal_number (head_by im p (byte_at im p) (texts_from im (passwords (byte_at im p)) (options_end p (byte_at im p)) 0)).refusal ≡ 0 → Found p
   unfolding head_by
   options_laid p i b =
       if_ind Sound (options_end p (byte_at im p) ≤? length im)
@@ -130,9 +131,9 @@ module _ (im : List ℕ) where
       (λ o c. absurd (omega arith))
     where
       Sound : read.Head → Type 0
-      Sound h = h.refusal ≡ 0 → Found p
+      Sound h = refusal_number h.refusal ≡ 0 → Found p
 
-  read_laid : (p : ℕ) → (head_at im p).refusal ≡ 0 → Found p
+  read_laid : (p : ℕ) → refusal_number (head_at im p).refusal ≡ 0 → Found p
   unfolding head_at
   read_laid p =
       if_ind Sound (p <? length im)
@@ -140,7 +141,7 @@ module _ (im : List ℕ) where
       (λ i c. absurd (omega arith))
     where
       Sound : read.Head → Type 0
-      Sound h = h.refusal ≡ 0 → Found p
+      Sound h = refusal_number h.refusal ≡ 0 → Found p
 
   -- the password of a head laid out so, if it is a good one
   laid_password : {p end : ℕ} → Laid p end → (head_read im p (byte_at im p) end).typeable ≡ true → Password im p end
@@ -153,7 +154,7 @@ module _ (im : List ℕ) where
       Password.none no (none_ends (rw no at h.word.texts)))
 
   -- what is known of a head that reads with code 0
-  pub head_reads : (p : ℕ) → (head_at im p).refusal ≡ 0 → HeadReads im p
+  pub head_reads : (p : ℕ) → refusal_number (head_at im p).refusal ≡ 0 → HeadReads im p
   head_reads p c =
       let f = read_laid p c in
       let h = f.laid in

@@ -12,6 +12,10 @@ use Rattle.laws.specs.Bytes.{byte_at, room}
 use Rattle.laws.proofs.Cases.{if_ind, if_min, if_true, if_lt}
 use Rattle.laws.proofs.Rooms.{room_le, le_room}
 use Rattle.field.specs.Settings.{settings_fit}
+use Rattle.std.specs.Prelude.{Option, Some, None}
+use Rattle.cmf.specs.Refusals.{refusal_number}
+use Rattle.cmf.specs.declared.refusal.Refusal.{Refusal}
+use Rattle.cmf.specs.declared.refusal.Refusal.TheVariants as fault
 use Rattle.cmf.specs.Layouts.{Texts, code, edit_bit}
 use Rattle.cmf.specs.Readers.{run_of, texts_from, fixed_bytes, text_count, given, kind_at, field_by, component_read, laid_out, component_by, component_at}
 use Rattle.cmf.specs.declared.component.Component as read
@@ -52,13 +56,13 @@ module _ (im : List ℕ) where
     pub laid : Laid at c end
 
   -- settings that are not refused are good
-  not_nine : (t : Bool) → ◌≡◌ {A = ℕ} (when t then 0 else 9) 0 → t ≡ true
-  not_nine t = if_ind (λ (n : ℕ). n ≡ 0 → t ≡ true) t (λ e c. e) (λ e c. absurd (omega arith))
+  not_nine : (t : Bool) → refusal_number (when t then None else Some fault.Setting) ≡ 0 → t ≡ true
+  not_nine t = if_ind (λ (r : Option Refusal). refusal_number r ≡ 0 → t ≡ true) t (λ e c. e) (λ e c. absurd (omega arith))
 
   -- a component that is read is laid out so: first by a code, then by its own
   out_laid :
       (at c : ℕ) → c < 0x18 →
-      (laid_out im at c (byte_at im at) (texts_from im (text_count im at c) (at + fixed_bytes c (edit_bit im at)) 0)).refusal ≡ 0 → Found at c
+      refusal_number (laid_out im at c (byte_at im at) (texts_from im (text_count im at c) (at + fixed_bytes c (edit_bit im at)) 0)).refusal ≡ 0 → Found at c
   unfolding laid_out
   out_laid at c k =
       if_ind Sound (room (length im) at (fixed_bytes c (edit_bit im at)))
@@ -81,9 +85,9 @@ module _ (im : List ℕ) where
       (λ r s. absurd (omega arith))
     where
       Sound : read.Component → Type 0
-      Sound x = x.refusal ≡ 0 → Found at c
+      Sound x = refusal_number x.refusal ≡ 0 → Found at c
 
-  pub read_laid : (at : ℕ) → (component_at im at).refusal ≡ 0 → Found at (code im at)
+  pub read_laid : (at : ℕ) → refusal_number (component_at im at).refusal ≡ 0 → Found at (code im at)
   unfolding component_at component_by
   read_laid at =
       if_ind Sound (at <? length im)
@@ -91,4 +95,4 @@ module _ (im : List ℕ) where
       (λ i s. absurd (omega arith))
     where
       Sound : read.Component → Type 0
-      Sound x = x.refusal ≡ 0 → Found at (code im at)
+      Sound x = refusal_number x.refusal ≡ 0 → Found at (code im at)

@@ -16,6 +16,10 @@ use Rattle.field.specs.Profiles.{profile_of, cell_of}
 use Rattle.field.specs.Cells.{in_range, in_span, all_within, cells_of, within}
 use Rattle.field.specs.Settings.{settings_fit, kind_fits}
 use Rattle.field.specs.declared.record.Field.{Field}
+use Rattle.std.specs.Prelude.{Option, Some, None}
+use Rattle.cmf.specs.Refusals.{refusal_number}
+use Rattle.cmf.specs.declared.refusal.Refusal.{Refusal}
+use Rattle.cmf.specs.declared.refusal.Refusal.TheVariants as fault
 use Rattle.cmf.specs.Layouts.{code, edit_bit, GoodSettings}
 use Rattle.cmf.specs.Forms.{Form, NotCovered, Beyond, ComponentCut, ComponentWrong}
 use Rattle.cmf.specs.Readers.{texts_from, fixed_bytes, text_count, given, kind_at, default_place, sheet_place_at, field_by, component_read, laid_out, component_by, component_at}
@@ -27,11 +31,11 @@ use Rattle.cmf.proofs.Codes.{integer_bytes, fields_by, integer_field}
 use Rattle.cmf.proofs.Forming.{clash, room_gt, cut_run, run_cut, no_cut}
 
 -- good settings read with 0, bad ones with 9
-pub data Settings (f : Field) : ℕ → Type 0 where
-  good : GoodSettings f → Settings f 0
-  bad : (GoodSettings f → ⊥) → Settings f 9
+pub data Settings (f : Field) : Option Refusal → Type 0 where
+  good : GoodSettings f → Settings f None
+  bad : (GoodSettings f → ⊥) → Settings f (Some fault.Setting)
 
-settings : (f : Field) → Settings f (when settings_fit f.kind f.default then 0 else 9)
+settings : (f : Field) → Settings f (when settings_fit f.kind f.default then None else Some fault.Setting)
 settings f =
     if_ind (Settings f) (settings_fit f.kind f.default) (λ y. Settings.good (record { good = y })) (λ y. Settings.bad (λ g. clash g.good y))
 
@@ -222,11 +226,11 @@ module _ (im : List ℕ) (at : ℕ) where
 
   -- a component is cut, or wrong, or read
   pub data View : read.Component → Type 0 where
-    cut : {x : read.Component} → ComponentCut im at → x.refusal ≡ 6 → View x
-    wrong : {x : read.Component} → (ComponentCut im at → ⊥) → ComponentWrong im at → x.refusal ≡ 7 → x.fielded ≡ false → View x
+    cut : {x : read.Component} → ComponentCut im at → refusal_number x.refusal ≡ 6 → View x
+    wrong : {x : read.Component} → (ComponentCut im at → ⊥) → ComponentWrong im at → refusal_number x.refusal ≡ 7 → x.fielded ≡ false → View x
     plain :
         {x : read.Component} {b t : ℕ} → (ComponentCut im at → ⊥) → (ComponentWrong im at → ⊥) → Form im at b t [] →
-        x.refusal ≡ 0 → x.fielded ≡ false → View x
+        refusal_number x.refusal ≡ 0 → x.fielded ≡ false → View x
     field :
         {x : read.Component} {b t : ℕ} {f : Field} → (ComponentCut im at → ⊥) → (ComponentWrong im at → ⊥) → Form im at b t (f ∷ []) →
         x.field ≡ f → x.fielded ≡ true → Settings f x.refusal → View x

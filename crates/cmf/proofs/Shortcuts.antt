@@ -22,6 +22,8 @@ use Rattle.field.proofs.Padded.{part_four}
 use Rattle.field.proofs.Ranges.{range_of_option, range_of_trigger}
 use Rattle.cmf.specs.Readers.{tag_bit, even_from, texts_from, fixed_bytes, text_count, given, kind_at, default_place, sheet_place_at, field_by, component_refused, component_read, laid_out, component_by, component_at}
 use Rattle.cmf.specs.declared.text.Run.{Run}
+use Rattle.std.specs.Prelude.{None}
+use Rattle.cmf.specs.declared.refusal.Refusal.TheVariants as fault
 use Rattle.cmf.proofs.Codes.{integer_bytes, integer_field}
 
 -- ---- by the tests of the definition
@@ -33,19 +35,19 @@ component_here im at code h e = sym (if_lt at (length im) _ _ h ∙ rw e)
 
 module _ (im : List ℕ) (at code tag : ℕ) (known : code < 0x18) where
   -- not all fixed bytes are there
-  pub fixed_short : room (length im) at (fixed_bytes code (tag_bit 32 tag)) ≡ false → component_by im at code tag ≡ component_refused im at 6
+  pub fixed_short : room (length im) at (fixed_bytes code (tag_bit 32 tag)) ≡ false → component_by im at code tag ≡ component_refused im at fault.Cut
   unfolding component_by laid_out
   fixed_short r = if_lt code 0x18 _ _ known ∙ if_false _ _ r
 
   module _ (t : Run) (whole : room (length im) at (fixed_bytes code (tag_bit 32 tag)) ≡ true)
       (read : t ≡ texts_from im (text_count im at code) (at + fixed_bytes code (tag_bit 32 tag)) 0) where
     -- not all texts are there
-    pub texts_short : t.fits ≡ false → component_by im at code tag ≡ component_refused im at 6
+    pub texts_short : t.fits ≡ false → component_by im at code tag ≡ component_refused im at fault.Cut
     unfolding component_by laid_out
     texts_short f = if_lt code 0x18 _ _ known ∙ rw (← read) (if_true _ _ whole ∙ if_false _ _ f)
 
     -- all is there, and section 7 does not give it
-    pub not_given : t.fits ≡ true → given im at code (tag_bit 32 tag) t ≡ false → component_by im at code tag ≡ component_refused im at 7
+    pub not_given : t.fits ≡ true → given im at code (tag_bit 32 tag) t ≡ false → component_by im at code tag ≡ component_refused im at fault.Form
     unfolding component_by laid_out
     not_given f g = if_lt code 0x18 _ _ known ∙ rw (← read) (if_true _ _ whole ∙ if_true _ _ f ∙ if_false _ _ g)
 
@@ -102,7 +104,7 @@ module _ (tag : ℕ) (constant : tag_bit 32 tag ≡ 0) where
 
   -- no field, and nothing of it can be bad
   pub string_read : (im : List ℕ) (at end : ℕ)
-      → record { refusal = 0; last = tag_bit 128 tag =? 1; editable = false; fielded = false; field = record { image = record { 0 = at }; sheet = record { 0 = 0 }; kind = Trigger; default = value_of 0 [] }; end = end; next = record { 0 = even_from end } }
+      → record { refusal = None; last = tag_bit 128 tag =? 1; editable = false; fielded = false; field = record { image = record { 0 = at }; sheet = record { 0 = 0 }; kind = Trigger; default = value_of 0 [] }; end = end; next = record { 0 = even_from end } }
       ≡ component_read im at 0x15 tag end
   unfolding kind_at sheet_place_at default_place profile_of when◌then◌else◌ fit
   string_read im at end = rw (constant, trigger_fits)

@@ -1,4 +1,5 @@
 pub mod Limits
+pub mod Refusals
 pub mod Layouts
 pub mod Grammar
 pub mod Readers

@@ -6,8 +6,9 @@ use Rattle.field.specs.declared.record.Field.{Field}
 use Rattle.cmf.specs.Limits.{most_lines_of_table, deepest_table, prolog_bytes}
 use Rattle.cmf.specs.Readers.{title_at, head_at, component_at}
 use Rattle.cmf.specs.declared.component.Component.{Component}
-use Rattle.cmf.specs.declared.place.Found.{Found}
-use Rattle.cmf.specs.declared.place.Found.TheVariants.{At, Nothing}
+use Rattle.field.specs.declared.kind.ImagePlace.{ImagePlace}
+use Rattle.std.specs.Prelude.{Option}
+use Rattle.std.specs.Prelude.{Some, None}
 
 -- the lines from one on to the last of the table, at most k
 unfoldable pub lines_from : List ℕ → ℕ → ℕ → List ℕ
@@ -48,23 +49,23 @@ line_count im t = length (lines_of im t)
 -- ---- what is looked for
 
 -- a place that is found if a test passes
-abbrev pub found_if : Bool → ℕ → Found
-found_if t p = when t then At (record { 0 = p }) else Nothing
+abbrev pub found_if : Bool → ℕ → Option ImagePlace
+found_if t p = when t then Some (record { 0 = p }) else None
 
 -- line k of a table, from 0, if it has more than k
-abbrev pub line_found : List ℕ → ℕ → ℕ → Found
+abbrev pub line_found : List ℕ → ℕ → ℕ → Option ImagePlace
 line_found im t k = found_if (k <? line_count im t) (line_at im t k)
 
 -- the first editable one of some components
-unfoldable pub first_editable : List ℕ → List ℕ → Found
-first_editable im [] = Nothing
-first_editable im (p ∷ ps) = when (component_at im p).editable then At (record { 0 = p })
+unfoldable pub first_editable : List ℕ → List ℕ → Option ImagePlace
+first_editable im [] = None
+first_editable im (p ∷ ps) = when (component_at im p).editable then Some (record { 0 = p })
     else first_editable im ps
 
 -- the editable component that follows one on its line; none follows the last
-unfoldable pub next_editable : List ℕ → ℕ → Found
+unfoldable pub next_editable : List ℕ → ℕ → Option ImagePlace
 next_editable im p =
-    when (component_at im p).last then Nothing
+    when (component_at im p).last then None
     else first_editable im (rest_of_line im (component_at im p).next.0)
 
 -- a place is one of a list

@@ -3,7 +3,7 @@
 -- 01 leaves it for later, 9 (of a component) that its settings are bad. Whether a head's
 -- password is a good one is told apart, by `typeable`. What is refused with 6 or 7 reads as the last of its
 -- list and leads nowhere.
-use Rattle.std.specs.Prelude.{ℕ, zero, suc, ◌+◌, ◌-◌, ◌*◌, ◌/◌, ◌%◌, max, Bool, true, false, List, [], length}
+use Rattle.std.specs.Prelude.{ℕ, zero, suc, ◌+◌, ◌-◌, ◌*◌, ◌/◌, ◌%◌, max, Bool, true, false, List, [], length, Some, None}
 use Rattle.laws.specs.Choice.{when◌then◌else◌, ◌and◌, ◌=?◌, ◌<?◌, ◌≤?◌}
 use Rattle.laws.specs.Bytes.{byte_at, word_at, room}
 use Rattle.laws.specs.Parts.{part_at}
@@ -17,6 +17,8 @@ use Rattle.field.specs.declared.kind.Kind.TheVariants.{Integer, Counter, Time, D
 use Rattle.field.specs.declared.kind.CounterSettings.{CounterSettings}
 use Rattle.field.specs.declared.record.Field.{Field}
 use Rattle.cmf.specs.Limits.{prolog_bytes, longest_password}
+use Rattle.cmf.specs.declared.refusal.Refusal.{Refusal}
+use Rattle.cmf.specs.declared.refusal.Refusal.TheVariants as fault
 use Rattle.cmf.specs.declared.image.Image.{Image}
 use Rattle.cmf.specs.declared.text.Run.{Run}
 use Rattle.cmf.specs.declared.title.Title.{Title}
@@ -79,11 +81,11 @@ text_bytes im at =
 -- ---- 7.2: a table's title
 
 abbrev pub title_refused : ℕ → Title
-title_refused at = record { refusal = 6; end = at; line = record { 0 = at } }
+title_refused at = record { refusal = Some fault.Cut; end = at; line = record { 0 = at } }
 
 -- where it ends, and where the first line is
 unfoldable pub title_by : ℕ → Run → Title
-title_by at t = when t.fits then record { refusal = 0; end = t.end; line = record { 0 = odd_from t.end } }
+title_by at t = when t.fits then record { refusal = None; end = t.end; line = record { 0 = odd_from t.end } }
     else title_refused at
 
 unfoldable pub title_at : List ℕ → ℕ → Title
@@ -91,9 +93,9 @@ title_at im at = title_by at (texts_from im 1 at 0)
 
 -- ---- 7.4: a line's head
 
-abbrev pub head_refused : ℕ → ℕ → Head
-head_refused p k = record {
-  refusal = k;
+abbrev pub head_refused : ℕ → Refusal → Head
+head_refused p r = record {
+  refusal = Some r;
   typeable = true;
   last = true;
   submenu = false;
@@ -131,7 +133,7 @@ passwords tag = tag_bit 8 tag * tag_bit 16 tag
 -- all options are in the image; the head ends at `end`. What an absent option would say has no meaning
 abbrev pub head_read : List ℕ → ℕ → ℕ → ℕ → Head
 head_read im p tag end = record {
-  refusal = 0;
+  refusal = None;
   typeable = when passwords tag =? 1 then password_fits im (options_end p tag) else true;
   last = tag_bit 2 tag =? 1;
   submenu = tag_bit 8 tag =? 1;
@@ -148,17 +150,17 @@ unfoldable pub head_by : List ℕ → ℕ → ℕ → Run → Head
 head_by im p tag t =
     when options_end p tag ≤? length im then
     (when t.fits then
-    (when tag_bit 16 tag ≤? tag_bit 8 tag then head_read im p tag t.end else head_refused p 7)
-    else head_refused p 6)
-    else head_refused p 6
+    (when tag_bit 16 tag ≤? tag_bit 8 tag then head_read im p tag t.end else head_refused p fault.Form)
+    else head_refused p fault.Cut)
+    else head_refused p fault.Cut
 
 -- R9: a tag with a bit above 4 is 7 at once
 unfoldable pub head_at : List ℕ → ℕ → Head
 head_at im p =
     when p <? length im then
     (when byte_at im p <? 32 then head_by im p (byte_at im p)
-    (texts_from im (passwords (byte_at im p)) (options_end p (byte_at im p)) 0) else head_refused p 7)
-    else head_refused p 6
+    (texts_from im (passwords (byte_at im p)) (options_end p (byte_at im p)) 0) else head_refused p fault.Form)
+    else head_refused p fault.Cut
 
 -- ---- 7.5: a component
 
@@ -243,9 +245,9 @@ field_by im at code = record {
   default = value_at (default_place at code) (profile_of (kind_at im at code)).bytes im;
 }
 
-abbrev pub component_refused : List ℕ → ℕ → ℕ → Component
-component_refused im at k = record {
-  refusal = k;
+abbrev pub component_refused : List ℕ → ℕ → Refusal → Component
+component_refused im at r = record {
+  refusal = Some r;
   last = true;
   editable = false;
   fielded = false;
@@ -257,7 +259,7 @@ component_refused im at k = record {
 -- the component that ends at `end`; 01, Fields: a trigger is editable whatever its edit bit
 abbrev pub component_read : List ℕ → ℕ → ℕ → ℕ → ℕ → Component
 component_read im at code tag end = record {
-  refusal = when settings_fit (kind_at im at code) (field_by im at code).default then 0 else 9;
+  refusal = when settings_fit (kind_at im at code) (field_by im at code).default then None else Some fault.Setting;
   last = tag_bit 128 tag =? 1;
   editable = when code =? 0x17 then true else tag_bit 32 tag =? 1;
   fielded = when code =? 0x15 then false else true;
@@ -270,8 +272,8 @@ unfoldable pub laid_out : List ℕ → ℕ → ℕ → ℕ → Run → Component
 laid_out im at code tag t =
     when room (length im) at (fixed_bytes code (tag_bit 32 tag)) then
     (when t.fits then (when given im at code (tag_bit 32 tag) t then component_read im at code tag t.end
-    else component_refused im at 7) else component_refused im at 6)
-    else component_refused im at 6
+    else component_refused im at fault.Form) else component_refused im at fault.Cut)
+    else component_refused im at fault.Cut
 
 -- R14: a form left for later is 6 if section 7's layout of it is not all there, else 7; a code that is not
 -- given is 7 at its tag
@@ -279,9 +281,9 @@ unfoldable pub component_by : List ℕ → ℕ → ℕ → ℕ → Component
 component_by im at code tag =
     when code <? 0x18 then laid_out im at code tag
     (texts_from im (text_count im at code) (at + fixed_bytes code (tag_bit 32 tag)) 0)
-    else component_refused im at 7
+    else component_refused im at fault.Form
 
 unfoldable pub component_at : List ℕ → ℕ → Component
 component_at im at =
     when at <? length im then component_by im at (byte_at im at % 32) (byte_at im at)
-    else component_refused im at 6
+    else component_refused im at fault.Cut

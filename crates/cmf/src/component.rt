@@ -1,5 +1,6 @@
 // A component of a line, and the field that it is.
-ghost use Rattle.std.specs.Prelude.{◌≡◌, ◌+◌, ◌%◌, ◌<◌, ◌≤◌, length, true, false, []};
+ghost use Rattle.std.specs.Prelude.{◌≡◌, ◌+◌, ◌%◌, ◌<◌, ◌≤◌, length, true, false, [], Some, None};
+ghost use Rattle.cmf.specs.declared.refusal.Refusal.TheVariants as fault;
 ghost use Rattle.laws.specs.Choice.{when◌then◌else◌, ◌=?◌};
 ghost use Rattle.laws.specs.Bytes.{word_at, room};
 ghost use Rattle.field.specs.Cells.{biased};
@@ -11,6 +12,7 @@ ghost use Rattle.cmf.specs.Readers.{component_by, component_at};
 
 use crate::image::{Image, word_in};
 use crate::layout::{fixed_bytes, is_given, option_given, text_count};
+use crate::refusal::Refusal;
 use crate::text::{ITEMS, Run, read_texts};
 use field::kind::{CounterSettings, Format, ImagePlace, Kind, SheetPlace};
 use field::record::Field;
@@ -18,11 +20,11 @@ use field::settings::settings_fit;
 use field::value::{Value, value_at};
 use laws::{byte_at, room, word_at};
 
-// refusal: 0, or 6, 7 or 9. fielded: it is a field, and no constant string. next: the place of the next
-// component.
+// refusal: it is cut, of no given form, or has a bad setting. fielded: it is a field, and no constant string.
+// next: the place of the next component.
 #[derive(Clone, Copy)]
 pub struct Component {
-    pub refusal: u8,
+    pub refusal: Option<Refusal>,
     pub last: bool,
     pub editable: bool,
     pub fielded: bool,
@@ -49,14 +51,16 @@ fn counter_of(image: &[u8], at: usize) -> CounterSettings
     }
 }
 
+#[tactic(auto, using(laws::proofs::Cases::choices), unfolding(crate::specs::Readers::sheet_place_at))]
 fn sheet_place(image: &[u8], at: usize, code: u8) -> u16
     requires { at < length image.now }
     ensures { result ≡ sheet_place_at image.now at code }
 {
     if code < 0x15 {
-        return word_at(image, at + 4);
+        word_at(image, at + 4)
+    } else {
+        0
     }
-    0
 }
 
 // A trigger has no bytes; it stands for the field where there is none.
@@ -121,11 +125,11 @@ fn field_by(image: &[u8], at: usize, code: u8) -> Field
 
 impl Component {
     // Not all there, or not given: the last of its line, and it leads nowhere.
-    fn refused(image: &[u8], at: usize, refusal: u8) -> Self
+    fn refused(image: &[u8], at: usize, refusal: Refusal) -> Self
         ensures { result ≡ component_refused image.now at refusal }
     {
         Component {
-            refusal,
+            refusal: Some(refusal),
             last: true,
             editable: false,
             fielded: false,
@@ -136,30 +140,28 @@ impl Component {
     }
 }
 
-fn nine_unless(ok: bool) -> u8
-    ensures { result ≡ when ok then 0 else 9 }
+// The refusal of a component by its settings.
+#[tactic(auto, using(laws::proofs::Cases::choices))]
+fn setting_refusal(good: bool) -> Option<Refusal>
+    ensures { result ≡ when good then None else Some fault.Setting }
 {
-    if ok { 0 } else { 9 }
+    if good { None } else { Some(Refusal::Setting) }
 }
 
 // A trigger is editable whatever its edit bit.
+#[tactic(auto, using(laws::proofs::Cases::choices))]
 fn is_editable(code: u8, tag: u8) -> bool
     ensures { result ≡ when code =? 0x17 then true else tag_bit 32 tag =? 1 }
 {
-    if code == 0x17 {
-        return true;
-    }
-    tag / 32 % 2 == 1
+    code == 0x17 || tag / 32 % 2 == 1
 }
 
 // Every component but a constant string is a field.
+#[tactic(auto, using(laws::proofs::Cases::choices))]
 fn is_field(code: u8) -> bool
     ensures { result ≡ when code =? 0x15 then false else true }
 {
-    if code == 0x15 {
-        return false;
-    }
-    true
+    code != 0x15
 }
 
 // The component, no option, that ends at `end`.
@@ -168,10 +170,8 @@ fn component_read(image: &[u8], at: usize, code: u8, tag: u8, end: usize) -> Com
     ensures { result ≡ component_read image.now at code tag end }
 {
     let field = field_by(image, at, code);
-    let kind = field.kind;
-    let default = field.default;
     Component {
-        refusal: nine_unless(settings_fit(kind, default)),
+        refusal: setting_refusal(settings_fit(field.kind, field.default)),
         last: tag / 128 % 2 == 1,
         editable: is_editable(code, tag),
         fielded: is_field(code),
@@ -182,37 +182,37 @@ fn component_read(image: &[u8], at: usize, code: u8, tag: u8, end: usize) -> Com
 }
 
 // The component, no option, whose fixed bytes are all there, with these texts after them.
+#[tactic(auto, using(laws::proofs::Cases::choices), unfolding(crate::specs::Readers::laid_out))]
 fn laid_out(image: &[u8], at: usize, code: u8, tag: u8, t: Run) -> Component
     requires { (at < length image.now) × (code ≡ 0x14 → ⊥)
         × (room (length image.now) at (fixed_bytes code (tag_bit 32 tag)) ≡ true)
         × (t.fits ≡ true → t.end ≤ length image.now) }
     ensures { result ≡ laid_out image.now at code tag t }
 {
-    if t.fits {
-        let given = is_given(image, at, code, tag / 32 % 2, t);
-        if given {
-            return component_read(image, at, code, tag, t.end);
-        }
-        return Component::refused(image, at, 7);
+    if !t.fits {
+        return Component::refused(image, at, Refusal::Cut);
     }
-    Component::refused(image, at, 6)
+    if !is_given(image, at, code, tag / 32 % 2, t) {
+        return Component::refused(image, at, Refusal::Form);
+    }
+    component_read(image, at, code, tag, t.end)
 }
 
 // The component with this code, which is no option's.
+#[tactic(auto, using(laws::proofs::Cases::choices), unfolding(crate::specs::Readers::component_by))]
 fn component_by(image: &[u8], at: usize, code: u8, tag: u8) -> Component
     requires { (at < length image.now) × (code ≡ 0x14 → ⊥) }
     ensures { result ≡ component_by image.now at code tag }
 {
-    if code < Image::CODES {
-        let fixed = fixed_bytes(code, tag / 32 % 2);
-        let whole = room(image, at, fixed);
-        if whole {
-            let t = read_texts(image, text_count(image, at, code), at + fixed);
-            return laid_out(image, at, code, tag, t);
-        }
-        return Component::refused(image, at, 6);
+    if Image::CODES <= code {
+        return Component::refused(image, at, Refusal::Form);
     }
-    Component::refused(image, at, 7)
+    let fixed = fixed_bytes(code, tag / 32 % 2);
+    if !room(image, at, fixed) {
+        return Component::refused(image, at, Refusal::Cut);
+    }
+    let t = read_texts(image, text_count(image, at, code), at + fixed);
+    laid_out(image, at, code, tag, t)
 }
 
 // A constant string: it is no field, and no setting of it can be bad.
@@ -221,19 +221,18 @@ fn string_by(image: &[u8], at: usize, tag: u8) -> Component
     ensures { result ≡ component_by image.now at 0x15 tag }
 {
     let t = read_texts(image, 1, at + 1);
-    if t.fits {
-        let end = t.end;
-        return Component {
-            refusal: 0,
-            last: tag / 128 % 2 == 1,
-            editable: false,
-            fielded: false,
-            field: trigger(at, 0),
-            end,
-            next: ImagePlace(end + end % 2),
-        };
+    if !t.fits {
+        return Component::refused(image, at, Refusal::Cut);
     }
-    Component::refused(image, at, 6)
+    Component {
+        refusal: None,
+        last: tag / 128 % 2 == 1,
+        editable: false,
+        fielded: false,
+        field: trigger(at, 0),
+        end: t.end,
+        next: ImagePlace(t.end + t.end % 2),
+    }
 }
 
 // The field of an option, whose fixed bytes are all there.
@@ -267,7 +266,7 @@ fn option_read(image: &[u8], at: usize, tag: u8, end: usize) -> Component
     ensures { result ≡ component_read image.now at 0x14 tag end }
 {
     Component {
-        refusal: nine_unless(option_fits(image, at)),
+        refusal: setting_refusal(option_fits(image, at)),
         last: tag / 128 % 2 == 1,
         editable: tag / 32 % 2 == 1,
         fielded: true,
@@ -281,22 +280,20 @@ fn option_by(image: &[u8], at: usize, tag: u8) -> Component
     requires { at < length image.now }
     ensures { result ≡ component_by image.now at 0x14 tag }
 {
-    let whole = room(image, at, ITEMS);
-    if whole {
-        let t = read_texts(image, image[at + 7] as usize, at + ITEMS);
-        if t.fits {
-            let given = option_given(image, at, t);
-            if given {
-                return option_read(image, at, tag, t.end);
-            }
-            return Component::refused(image, at, 7);
-        }
-        return Component::refused(image, at, 6);
+    if !room(image, at, ITEMS) {
+        return Component::refused(image, at, Refusal::Cut);
     }
-    Component::refused(image, at, 6)
+    let t = read_texts(image, image[at + 7] as usize, at + ITEMS);
+    if !t.fits {
+        return Component::refused(image, at, Refusal::Cut);
+    }
+    if !option_given(image, at, t) {
+        return Component::refused(image, at, Refusal::Form);
+    }
+    option_read(image, at, tag, t.end)
 }
 
-// The component whose tag is at a place.
+#[tactic(auto, using(laws::proofs::Cases::choices), unfolding(crate::specs::Readers::component_at))]
 pub fn read_component(image: &[u8], at: usize) -> Component
     ensures { result ≡ component_at image.now at }
 {
@@ -310,5 +307,5 @@ pub fn read_component(image: &[u8], at: usize) -> Component
         }
         return component_by(image, at, tag % 32, tag);
     }
-    Component::refused(image, at, 6)
+    Component::refused(image, at, Refusal::Cut)
 }

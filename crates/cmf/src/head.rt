@@ -6,16 +6,17 @@ ghost use Rattle.cmf.specs.Readers.{first_at, back_place, back_at, submenu_place
 ghost use Rattle.cmf.specs.Readers.{head_read, head_by, head_at};
 
 use crate::image::{Image, word_in};
+use crate::refusal::Refusal;
 use crate::text::{password_fits, read_texts};
 use field::kind::ImagePlace;
 use laws::{byte_at, room, word_at};
 
-// refusal: 0, or 6 or 7. typeable: its password, if it has one, is of 1 to 8 digits. last: of its table.
+// refusal: the head is cut, or of no given form. typeable: its password, if it has one, is of 1 to 8 digits. last: of its table.
 // next, table, password, component: the places of the next line, of the submenu's table, of the password, of
 // the first component; without meaning if it has none.
 #[derive(Clone, Copy)]
 pub struct Head {
-    pub refusal: u8,
+    pub refusal: Option<Refusal>,
     pub typeable: bool,
     pub last: bool,
     pub submenu: bool,
@@ -32,11 +33,11 @@ impl Head {
     pub(crate) const MOST: usize = 9;
 
     // Not all there, or no head: the last of its table, and it leads nowhere.
-    fn refused(p: usize, refusal: u8) -> Self
+    fn refused(p: usize, refusal: Refusal) -> Self
         ensures { result ≡ head_refused p refusal }
     {
         Head {
-            refusal,
+            refusal: Some(refusal),
             typeable: true,
             last: true,
             submenu: false,
@@ -90,13 +91,11 @@ pub fn back_at(image: &[u8], p: usize) -> usize
     0
 }
 
+#[tactic(auto, using(laws::proofs::Cases::choices))]
 fn is_typeable(image: &[u8], protected: bool, at: usize) -> bool
     ensures { result ≡ when protected then password_fits image.now at else true }
 {
-    if protected {
-        return password_fits(image, at);
-    }
-    true
+    !protected || password_fits(image, at)
 }
 
 // The head whose options are all in the image, and which ends at `end`.
@@ -107,12 +106,11 @@ fn head_read(image: &[u8], p: usize, tag: u8, end: usize) -> Head
     let t = tag as usize;
     let password = p + options_length(tag);
     let protected = (t / 8 % 2) * (t / 16 % 2) == 1;
-    let typeable = is_typeable(image, protected, password);
     let a = word_at(image, p + 1) as usize;
     let d = word_at(image, p + submenu_offset(tag)) as usize;
     Head {
-        refusal: 0,
-        typeable,
+        refusal: None,
+        typeable: is_typeable(image, protected, password),
         last: t / 2 % 2 == 1,
         submenu: t / 8 % 2 == 1,
         protected,
@@ -133,30 +131,28 @@ fn head_by(image: &[u8], p: usize, tag: u8) -> Head
     let t = tag as usize;
     let options = p + options_length(tag);
     let run = read_texts(image, (t / 8 % 2) * (t / 16 % 2), options);
-    if options <= image.len() {
-        if run.fits {
-            if t / 16 % 2 <= t / 8 % 2 {
-                return head_read(image, p, tag, run.end);
-            }
-            return Head::refused(p, 7);
-        }
-        return Head::refused(p, 6);
+    if image.len() < options || !run.fits {
+        return Head::refused(p, Refusal::Cut);
     }
-    Head::refused(p, 6)
+    if t / 8 % 2 < t / 16 % 2 {
+        return Head::refused(p, Refusal::Form);
+    }
+    head_read(image, p, tag, run.end)
 }
 
 // The head whatever its tag.
+#[tactic(auto, using(laws::proofs::Cases::choices), unfolding(crate::specs::Readers::head_at))]
 pub(crate) fn any_head(image: &[u8], p: usize) -> Head
     ensures { result ≡ head_at image.now p }
 {
-    if p < image.len() {
-        let tag = byte_at(image, p);
-        if tag < 32 {
-            return head_by(image, p, tag);
-        }
-        return Head::refused(p, 7);
+    if image.len() <= p {
+        return Head::refused(p, Refusal::Cut);
     }
-    Head::refused(p, 6)
+    let tag = image[p];
+    if 32 <= tag {
+        return Head::refused(p, Refusal::Form);
+    }
+    head_by(image, p, tag)
 }
 
 // The head without a password, with room for all options.
@@ -167,7 +163,7 @@ fn short_head(image: &[u8], p: usize, tag: u8) -> Head
     let t = tag as usize;
     let end = p + options_length(tag);
     Head {
-        refusal: 0,
+        refusal: None,
         typeable: true,
         last: t / 2 % 2 == 1,
         submenu: t / 8 % 2 == 1,
@@ -184,8 +180,7 @@ fn short_head(image: &[u8], p: usize, tag: u8) -> Head
 pub fn read_head(image: &[u8], p: usize) -> Head
     ensures { result ≡ head_at image.now p }
 {
-    let whole = room(image, p, Head::MOST);
-    if whole {
+    if room(image, p, Head::MOST) {
         let tag = image[p];
         if tag < 16 {
             return short_head(image, p, tag);

@@ -7,5 +7,6 @@ pub mod head;
 pub mod image;
 mod layout;
 pub mod place;
+pub mod refusal;
 pub mod text;
 pub mod title;

@@ -14,13 +14,6 @@ use crate::title::read_title;
 use field::kind::ImagePlace;
 use laws::room;
 
-// What is looked for in an image: it is at a place, or there is none.
-#[derive(Clone, Copy)]
-pub enum Found {
-    At(ImagePlace),
-    Nothing,
-}
-
 // Of a line's head what leads on: whether the line is the last of its table, and the place of the next line.
 #[derive(Clone, Copy)]
 struct Step {
@@ -48,14 +41,7 @@ fn is_protected(image: &[u8], p: usize, tag: u8) -> bool
     ensures { result ≡ true → (24 ≤ tag) × (tag < 32)
         × ((texts_from image.now 1 (options_end p tag) 0).fits ≡ true) }
 {
-    if tag < 24 {
-        return false;
-    }
-    if 31 < tag {
-        return false;
-    }
-    let run = read_texts(image, 1, p + options_length(tag));
-    run.fits
+    (24..32).contains(&tag) && read_texts(image, 1, p + options_length(tag)).fits
 }
 
 // Where the options have room, and a password too, no head needs to be read.
@@ -63,33 +49,26 @@ fn step_at(image: &[u8], p: usize) -> Step
     ensures { (result.last ≡ (head_at image.now p).last)
         × (result.next.0 ≡ (head_at image.now p).next.0) }
 {
-    let whole = room(image, p, Head::MOST);
-    if whole {
+    if room(image, p, Head::MOST) {
         let tag = image[p];
-        if tag < 16 {
-            return Step::read(image, p, tag);
-        }
-        let protected = is_protected(image, p, tag);
-        if protected {
+        if tag < 16 || is_protected(image, p, tag) {
             return Step::read(image, p, tag);
         }
     }
     let h = any_head(image, p);
-    let next = h.next;
-    Step { last: h.last, next }
+    Step {
+        last: h.last,
+        next: h.next,
+    }
 }
 
 // The place of line k of a table, from 0; without meaning past the table's last line.
 pub fn line_at(image: &[u8], table: usize, k: usize) -> usize
     ensures { result ≡ line_at image.now table k }
 {
-    let title = read_title(image, table);
-    let mut p = title.line.0;
-    let mut left = k;
-    while 0 < left {
-        let h = step_at(image, p);
-        p = h.next.0;
-        left = left - 1;
+    let mut p = read_title(image, table).line.0;
+    for _ in 0..k {
+        p = step_at(image, p).next.0;
     }
     p
 }
@@ -98,68 +77,60 @@ pub fn line_at(image: &[u8], table: usize, k: usize) -> usize
 pub fn line_count(image: &[u8], table: usize) -> usize
     ensures { result ≡ line_count image.now table }
 {
-    let title = read_title(image, table);
-    let mut p = title.line.0;
-    let mut n = 0;
-    while n < Image::MAX_TABLE_LINES + 1 {
+    let mut p = read_title(image, table).line.0;
+    for n in 0..=Image::MAX_TABLE_LINES {
         let h = step_at(image, p);
-        n = n + 1;
         if h.last {
-            return n;
+            return n + 1;
         }
         p = h.next.0;
     }
-    n
+    Image::MAX_TABLE_LINES + 1
 }
 
 // Line k of a table, from 0, if the table has so many; no line after it is looked at.
-pub fn reach(image: &[u8], table: usize, k: usize) -> Found
+pub fn reach(image: &[u8], table: usize, k: usize) -> Option<ImagePlace>
     ensures { result ≡ line_found image.now table k }
 {
     if Image::MAX_TABLE_LINES < k {
-        return Found::Nothing;
+        return None;
     }
-    let title = read_title(image, table);
-    let mut p = title.line.0;
-    let mut left = k;
-    while 0 < left {
+    let mut p = read_title(image, table).line.0;
+    for _ in 0..k {
         let h = read_head(image, p);
         if h.last {
-            return Found::Nothing;
+            return None;
         }
         p = h.next.0;
-        left = left - 1;
     }
-    Found::At(ImagePlace(p))
+    Some(ImagePlace(p))
 }
 
 // The first editable component from one on to the last of its line.
-pub fn first_editable(image: &[u8], from: usize) -> Found
+pub fn first_editable(image: &[u8], from: usize) -> Option<ImagePlace>
     ensures { result ≡ first_editable image.now (rest_of_line image.now from) }
 {
     let mut p = from;
-    let mut left = image.len() + 1;
-    while 0 < left {
+    for _ in 0..=image.len() {
         let c = read_component(image, p);
         if c.editable {
-            return Found::At(ImagePlace(p));
+            return Some(ImagePlace(p));
         }
         if c.last {
-            return Found::Nothing;
+            return None;
         }
         p = c.next.0;
-        left = left - 1;
     }
-    Found::Nothing
+    None
 }
 
 // The editable component that follows the one at a place on its line.
-pub fn next_editable(image: &[u8], place: usize) -> Found
+pub fn next_editable(image: &[u8], place: usize) -> Option<ImagePlace>
     ensures { result ≡ next_editable image.now place }
 {
     let c = read_component(image, place);
     if c.last {
-        return Found::Nothing;
+        return None;
     }
     first_editable(image, c.next.0)
 }
@@ -168,10 +139,8 @@ pub fn next_editable(image: &[u8], place: usize) -> Found
 pub fn is_on_line(image: &[u8], line: usize, place: usize) -> bool
     ensures { result ≡ is_in place (components_of image.now line) }
 {
-    let h = read_head(image, line);
-    let mut c = h.component.0;
-    let mut left = image.len() + 1;
-    while 0 < left {
+    let mut c = read_head(image, line).component.0;
+    for _ in 0..=image.len() {
         if c == place {
             return true;
         }
@@ -180,7 +149,6 @@ pub fn is_on_line(image: &[u8], line: usize, place: usize) -> bool
             return false;
         }
         c = k.next.0;
-        left = left - 1;
     }
     false
 }

@@ -1,5 +1,5 @@
 // Texts: a length byte and so many bytes; several of them one after the other.
-ghost use Rattle.std.specs.Prelude.{◌≡◌, false, ◌+◌, ◌<◌, max, length};
+ghost use Rattle.std.specs.Prelude.{◌≡◌, false, ◌+◌, ◌<◌, length};
 ghost use Rattle.cmf.specs.Readers.{run_of, texts_from, all_digits, password_fits, item_from, item_place};
 ghost use Rattle.cmf.specs.Readers.{text_bytes};
 ghost use Rattle.laws.specs.Choice.{when◌then◌else◌, ◌<?◌};
@@ -28,20 +28,13 @@ impl Run {
     }
 }
 
-fn larger(a: u8, b: u8) -> u8
-    ensures { result ≡ max a b }
-{
-    if a < b { b } else { a }
-}
-
 // So many texts from a place on.
 pub fn read_texts(image: &[u8], count: usize, at: usize) -> Run
     ensures { result ≡ texts_from image.now count at 0 }
 {
     let mut end = at;
-    let mut longest = 0;
-    let mut left = count;
-    while 0 < left {
+    let mut longest = 0u8;
+    for _ in 0..count {
         if image.len() <= end {
             return Run::cut(end, longest);
         }
@@ -51,8 +44,7 @@ pub fn read_texts(image: &[u8], count: usize, at: usize) -> Run
             return Run::cut(end, longest);
         }
         end = next;
-        longest = larger(longest, n);
-        left = left - 1;
+        longest = longest.max(n);
     }
     Run {
         fits: true,
@@ -66,18 +58,10 @@ fn all_digits(image: &[u8], count: usize, at: usize) -> bool
     requires { at + count < 18446744073709551616 }
     ensures { result ≡ all_digits image.now count at }
 {
-    let mut k = at;
-    let mut left = count;
-    while 0 < left {
-        let b = byte_at(image, k);
-        if b < 0x30 {
+    for k in at..at + count {
+        if !byte_at(image, k).is_ascii_digit() {
             return false;
         }
-        if 0x39 < b {
-            return false;
-        }
-        k = k + 1;
-        left = left - 1;
     }
     true
 }
@@ -86,14 +70,8 @@ fn all_digits(image: &[u8], count: usize, at: usize) -> bool
 pub fn password_fits(image: &[u8], at: usize) -> bool
     ensures { result ≡ password_fits image.now at }
 {
-    if image.len() <= at {
-        return false;
-    }
     let n = byte_at(image, at) as usize;
-    if n < 1 {
-        return false;
-    }
-    if Image::MAX_PASSWORD < n {
+    if n < 1 || Image::MAX_PASSWORD < n {
         return false;
     }
     all_digits(image, n, at + 1)
@@ -107,13 +85,11 @@ fn item_from(image: &[u8], k: usize, at: usize) -> usize
     ensures { result ≡ item_from image.now k at }
 {
     let mut place = at;
-    let mut left = k;
-    while 0 < left {
+    for _ in 0..k {
         if image.len() <= place {
             return place;
         }
-        place = place + 1 + byte_at(image, place) as usize;
-        left = left - 1;
+        place += 1 + byte_at(image, place) as usize;
     }
     place
 }
@@ -134,8 +110,7 @@ pub fn text_bytes<'a>(image: &'a [u8], at: usize) -> &'a [u8]
     ensures { result.now ≡ text_bytes image.now at }
 {
     let n = byte_at(image, at) as usize;
-    let whole = room(image, at, 1 + n);
-    if whole {
+    if room(image, at, 1 + n) {
         let start = at + 1;
         let end = start + n;
         return &image[start..end];

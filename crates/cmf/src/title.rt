@@ -2,13 +2,14 @@
 ghost use Rattle.std.specs.Prelude.{◌≡◌};
 ghost use Rattle.cmf.specs.Readers.{title_at};
 
+use crate::refusal::Refusal;
 use crate::text::read_texts;
 use field::kind::ImagePlace;
 
-// Where the title ends, and where the table's first line is; refusal 6: not all of it is in the image.
+// Where the title ends, and where the table's first line is; refused if not all of it is in the image.
 #[derive(Clone, Copy)]
 pub struct Title {
-    pub refusal: u8,
+    pub refusal: Option<Refusal>,
     pub end: usize,
     pub line: ImagePlace,
 }
@@ -18,15 +19,14 @@ pub fn read_title(image: &[u8], at: usize) -> Title
 {
     let t = read_texts(image, 1, at);
     if t.fits {
-        let end = t.end;
         return Title {
-            refusal: 0,
-            end,
-            line: ImagePlace(end + (1 - end % 2)),
+            refusal: None,
+            end: t.end,
+            line: ImagePlace(t.end + (1 - t.end % 2)),
         };
     }
     Title {
-        refusal: 6,
+        refusal: Some(Refusal::Cut),
         end: at,
         line: ImagePlace(at),
     }

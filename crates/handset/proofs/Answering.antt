@@ -20,8 +20,8 @@ use Rattle.acceptance.proofs.Acceptance.{accepted_exactly_when_well_formed}
 use Rattle.session.specs.Answers.{finished_from, refused_from, is_refused, told_number, taken, flash}
 use Rattle.session.specs.Fits.{mode_fits, visit_fits, session_fits}
 use Rattle.session.specs.Seconds.{browse_second, entry_second}
-use Rattle.cmf.specs.declared.place.Found.{Found}
-use Rattle.cmf.specs.declared.place.Found.TheVariants.{At, Nothing}
+use Rattle.std.specs.Prelude.{Option}
+use Rattle.std.specs.Prelude.{Some, None}
 use Rattle.session.specs.Browsing.{up_step, down_step, left_step, descended, right_step, enter_at, enter_step, browse_step}
 use Rattle.session.specs.Passwords.{last_digit, digit_step, entry_step}
 use Rattle.session.specs.Visits.{followed, visit_step}
@@ -57,10 +57,10 @@ module _ {m : Mode} where
   flash_plain s = record { given = refl; near = λ _. tt }
 
 -- ENTER while browsing, whatever is found
-enter_plain : (im sheet : List ℕ) (s : Session) (f : Found) → Plain mode.Browsing (enter_at im sheet s f)
+enter_plain : (im sheet : List ℕ) (s : Session) (f : Option ImagePlace) → Plain mode.Browsing (enter_at im sheet s f)
 unfolding enter_at
-enter_plain im sheet s (At p) = taken_plain _
-enter_plain im sheet s Nothing = flash_plain s
+enter_plain im sheet s (Some p) = taken_plain _
+enter_plain im sheet s None = flash_plain s
 
 -- a key in a visit, whatever its outcome
 followed_plain : (im sheet : List ℕ) (s : Session) (p : ImagePlace) (f : Field) (v : Work) (o : Outcome)

@@ -17,8 +17,8 @@ use Rattle.cmf.specs.Readers.{tag_bit, texts_from, fixed_bytes, text_count, give
 use Rattle.cmf.specs.Places.{components_from, rest_of_line, first_editable, next_editable, is_in}
 use Rattle.cmf.specs.declared.component.Component.{Component}
 use Rattle.cmf.specs.declared.text.Run.{Run}
-use Rattle.cmf.specs.declared.place.Found.{Found}
-use Rattle.cmf.specs.declared.place.Found.TheVariants.{At, Nothing}
+use Rattle.std.specs.Prelude.{Option}
+use Rattle.std.specs.Prelude.{Some, None}
 use Rattle.cmf.proofs.Onward.{component_onward}
 use Rattle.acceptance.proofs.Parts.{places_last, places_more}
 use Rattle.acceptance.proofs.Turns.{turns_more}
@@ -82,19 +82,19 @@ member_in p (q ∷ qs) m =
     go d (inr k) later = later k
 
 -- what is found is an editable one of a list
-pub data EditableIn (im cs : List ℕ) : Found → Type 0 where
-  here : {p : ImagePlace} → Memᴰ p.0 cs → (component_at im p.0).editable ≡ true → EditableIn im cs (At p)
-  none : EditableIn im cs Nothing
+pub data EditableIn (im cs : List ℕ) : Option ImagePlace → Type 0 where
+  here : {p : ImagePlace} → Memᴰ p.0 cs → (component_at im p.0).editable ≡ true → EditableIn im cs (Some p)
+  none : EditableIn im cs None
 
 -- by what is found
-pub by_found : {im cs : List ℕ} {f : Found} (P : Found → Type 0) → EditableIn im cs f
-    → ((p : ImagePlace) → Memᴰ p.0 cs → (component_at im p.0).editable ≡ true → P (At p)) → P Nothing → P f
+pub by_found : {im cs : List ℕ} {f : Option ImagePlace} (P : Option ImagePlace → Type 0) → EditableIn im cs f
+    → ((p : ImagePlace) → Memᴰ p.0 cs → (component_at im p.0).editable ≡ true → P (Some p)) → P None → P f
 by_found P (EditableIn.here {p = p} m e) g n = g p m e
 by_found P EditableIn.none g n = n
 
 module _ (im : List ℕ) where
   -- it is in a longer list too
-  editable_within : (ps qs : List ℕ) (f : Found) → ((q : ℕ) → Memᴰ q ps → Memᴰ q qs) → EditableIn im ps f → EditableIn im qs f
+  editable_within : (ps qs : List ℕ) (f : Option ImagePlace) → ((q : ℕ) → Memᴰ q ps → Memᴰ q qs) → EditableIn im ps f → EditableIn im qs f
   editable_within ps qs f i h = by_found (EditableIn im qs) h (λ p m e. EditableIn.here (i p.0 m) e) EditableIn.none
 
   pub first_editable_in : (cs : List ℕ) → EditableIn im cs (first_editable im cs)

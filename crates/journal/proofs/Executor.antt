@@ -29,7 +29,7 @@ use Rattle.cmf.specs.Grammar.{WellFormed}
 use Rattle.cmf.specs.Readers.{component_at}
 use Rattle.cmf.specs.Places.{components_of, next_editable}
 use Rattle.cmf.specs.declared.head.Head.{Head}
-use Rattle.cmf.specs.declared.place.Found.{Found}
+use Rattle.std.specs.Prelude.{Option}
 use Rattle.acceptance.proofs.Acceptance.{accepted_exactly_when_well_formed, same_fields}
 use Rattle.acceptance.proofs.Fields.{others_apart, field_inside}
 use Rattle.acceptance.proofs.Reach.{part_of}
@@ -240,7 +240,7 @@ module _ (im : List ℕ) where
     enter_right : e =? enter ≡ true → e =? second ≡ false → s.mode ≡ mode.Browsing → Right t e (enter_step im t.sheet (with_idle s 0)) t.sheet
     unfolding enter_step enter_at
     enter_right h key b =
-        by_found (λ (f : Found). Right t e (enter_at im t.sheet (with_idle s 0) f) t.sheet) (first_editable_in im (components_of im (cursor_line im s.here)))
+        by_found (λ (f : Option ImagePlace). Right t e (enter_at im t.sheet (with_idle s 0) f) t.sheet) (first_editable_in im (components_of im (cursor_line im s.here)))
         (λ p m o. record { right = opens (heard t e key answer.Taken refl) refl (counts_enter t e key answer.Taken refl h) (fresh_at (with_idle s 0) t.sheet p (on_line p.0 m o)) (λ q k. refl) })
         (quiet_flash t e key _ (still t e key s b _))
 
@@ -320,7 +320,7 @@ module _ (im : List ℕ) where
       moved_fresh : (sheet : List ℕ) → Fresh (rules_of im) executor (sitting (moved_on im sheet (with_idle s 0) p.0) sheet)
       unfolding moved_on moved_to
       moved_fresh sheet =
-          by_found (λ (x : Found). Fresh (rules_of im) executor (sitting (moved_to im sheet (with_idle s 0) x) sheet)) next_in
+          by_found (λ (x : Option ImagePlace). Fresh (rules_of im) executor (sitting (moved_to im sheet (with_idle s 0) x) sheet)) next_in
           (λ q i o. fresh_at (with_idle s 0) sheet q (on_line q.0 i o)) (none refl)
 
       -- another field lies apart

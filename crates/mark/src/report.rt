@@ -2,7 +2,6 @@
 use crate::byte::say_byte;
 use crate::path::say_path;
 use cmf::component::read_component;
-use cmf::place::Found;
 use console::words::{say, say_count};
 use field::kind::{ImagePlace, SheetPlace};
 use handset::fields::list_fields;
@@ -18,10 +17,10 @@ fn field_among(image: &[u8], places: &[usize], place: SheetPlace) -> Found {
         let field = component.field;
         let here = is_byte_at(field, place);
         if here {
-            return Found::At(ImagePlace(*at));
+            return Some(ImagePlace(*at));
         }
     }
-    Found::Nothing
+    None
 }
 
 fn say_verdict(out: &impl Print, verdict: Verdict) -> io::Result<()> {
@@ -68,7 +67,7 @@ fn say_numbered(
     q: Question,
 ) -> io::Result<()> {
     let place = q.place;
-    if let Found::At(at) = field_among(image, places, place) {
+    if let Some(at) = field_among(image, places, place) {
         print!(out; "{number} ")?;
         say_question(out, image, at.0, q, byte_at(sheet, place.0))?;
     }

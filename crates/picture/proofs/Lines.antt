@@ -16,7 +16,8 @@ use Rattle.cmf.specs.Places.{components_from, components_of, line_at, line_count
 use Rattle.cmf.specs.declared.head.Head.{Head}
 use Rattle.cmf.specs.declared.component.Component.{Component}
 use Rattle.session.specs.Fits.{cursor_line, cursor_head}
-use Rattle.cmf.specs.declared.place.Found.{Found}
+use Rattle.field.specs.declared.kind.ImagePlace.{ImagePlace}
+use Rattle.std.specs.Prelude.{Option}
 use Rattle.cmf.proofs.Finding.{editable_here, editable_last, editable_next}
 use Rattle.session.specs.declared.session.Level.{Level}
 use Rattle.session.specs.declared.session.Session.{Session}
@@ -106,7 +107,7 @@ pub password_row_is : {x y u v z : List ℕ} {d k a b c : ℕ} (im : List ℕ) (
 unfolding password_row
 password_row_is im s h n l q e g a b c p = padded blank (put_then a (put_then b c)) p ∙ rw (l, g, e, q)
 
-module _ (im : List ℕ) (l : Level) (h : Head) (f : Found) (e : h ≡ cursor_head im l) (g : f ≡ first_editable im (rest_of_line im h.component.0)) where
+module _ (im : List ℕ) (l : Level) (h : Head) (f : Option ImagePlace) (e : h ≡ cursor_head im l) (g : f ≡ first_editable im (rest_of_line im h.component.0)) where
   first_is : f ≡ first_editable im (components_of im (cursor_line im l))
   unfolding components_of cursor_head
   first_is = g ∙ ap (λ (k : Head). first_editable im (rest_of_line im k.component.0)) e
@@ -117,7 +118,7 @@ module _ (im : List ℕ) (l : Level) (h : Head) (f : Found) (e : h ≡ cursor_he
 
 -- ---- the mark of a line in row 0, as its row tells it
 
-module _ (im : List ℕ) (left p : ℕ) (c : Component) (all : Found) (mark r : ℕ) (l : 0 < left) (e : c ≡ component_at im p)
+module _ (im : List ℕ) (left p : ℕ) (c : Component) (all : Option ImagePlace) (mark r : ℕ) (l : 0 < left) (e : c ≡ component_at im p)
     (before : mark ≡ 0 → first_editable im (components_from im left p) ≡ all) (cursor_place : (mark ≡ 0 → ⊥) → mark ≡ mark_of all)
     (q : r ≡ (when mark =? 0 then (when c.editable then colon else when c.last then star else 0) else mark)) where
   here_editable : mark ≡ 0 → c.editable ≡ true → r ≡ mark_of all

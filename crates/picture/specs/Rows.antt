@@ -8,8 +8,9 @@ use Rattle.cmf.specs.Readers.{text_bytes, head_at, component_at}
 use Rattle.cmf.specs.Places.{components_of, line_at, line_count, first_editable}
 use Rattle.cmf.specs.declared.head.Head.{Head}
 use Rattle.cmf.specs.declared.component.Component.{Component}
-use Rattle.cmf.specs.declared.place.Found.{Found}
-use Rattle.cmf.specs.declared.place.Found.TheVariants.{At, Nothing}
+use Rattle.field.specs.declared.kind.ImagePlace.{ImagePlace}
+use Rattle.std.specs.Prelude.{Option}
+use Rattle.std.specs.Prelude.{Some, None}
 use Rattle.session.specs.Fits.{shape_fits, cursor_line, cursor_head}
 use Rattle.laws.specs.Digits.{digit0}
 use Rattle.session.specs.declared.session.Level.{Level}
@@ -33,9 +34,9 @@ capital_p = 0x50
 -- ---- row 0
 
 -- whether ENTER would open a visit: where an editable component is found
-abbrev pub mark_of : Found → ℕ
-mark_of (At p) = colon
-mark_of Nothing = star
+abbrev pub mark_of : Option ImagePlace → ℕ
+mark_of (Some p) = colon
+mark_of None = star
 
 -- on the cursor line
 unfoldable pub edit_mark : List ℕ → Level → ℕ

@@ -12,7 +12,7 @@ use crate::line::put_line;
 use crate::title::put_top;
 use cmf::head::{Head, read_head};
 use cmf::image::Image;
-use cmf::place::{Found, line_at, line_count, reach};
+use cmf::place::{line_at, line_count, reach};
 use field::kind::ImagePlace;
 use session::fits::shape_fits;
 use session::session::{Level, Session};
@@ -35,12 +35,12 @@ fn known_to(image: &[u8], table: usize, k: usize) -> Known
 {
     let line = reach(image, table, k);
     match line {
-        Found::At(p) => Known {
+        Some(p) => Known {
             count: k + 1,
             place: p,
             mark: 0,
         },
-        Found::Nothing => Known {
+        None => Known {
             count: line_count(image, table),
             place: ImagePlace(line_at(image, table, k)),
             mark: 0,

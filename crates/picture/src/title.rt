@@ -9,7 +9,7 @@ ghost use Rattle.texts.specs.Texts.{blank};
 ghost use Rattle.picture.specs.Rows.{edit_mark, line_number, more_mark, title_row, password_row, top_row};
 
 use cmf::head::read_head;
-use cmf::place::{Found, first_editable};
+use cmf::place::{first_editable};
 use cmf::text::text_bytes;
 use laws::byte_at;
 use laws::digits::first_digit;
@@ -29,8 +29,8 @@ fn edit_mark(image: &[u8], level: Level, line: usize, mark: u8) -> u8
     let h = read_head(image, line);
     let f = first_editable(image, h.component.0);
     match f {
-        Found::At(_) => b':',
-        Found::Nothing => b'*',
+        Some(_) => b':',
+        None => b'*',
     }
 }
 

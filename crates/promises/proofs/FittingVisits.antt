@@ -20,7 +20,7 @@ use Rattle.keys.proofs.Outcomes.{Facts}
 use Rattle.cmf.specs.Grammar.{WellFormed}
 use Rattle.cmf.specs.Readers.{component_at}
 use Rattle.cmf.specs.Places.{components_of, next_editable}
-use Rattle.cmf.specs.declared.place.Found.{Found}
+use Rattle.std.specs.Prelude.{Option}
 use Rattle.acceptance.proofs.Reach.{part_of}
 use Rattle.session.specs.Events.{enter}
 use Rattle.session.specs.Fits.{shape_fits, cursor_line, visit_fits, mode_fits}
@@ -63,7 +63,7 @@ module _ (im : List ℕ) (c l : ℕ) (shape : shape_fits c l ≡ true) (n : ℕ)
     pub enter_keeps : (sheet : List ℕ) → Keeps im c l (enter_step im sheet s)
     unfolding enter_step enter_at
     enter_keeps sheet =
-        by_found (λ (f : Found). Keeps im c l (enter_at im sheet s f)) (first_editable_in im (line_of s))
+        by_found (λ (f : Option ImagePlace). Keeps im c l (enter_at im sheet s f)) (first_editable_in im (line_of s))
         (λ q m o. record { good = begun_good sheet q m o }) (record { good = g })
 
     module _ (p : ImagePlace) (m : Memᴰ p.0 (line_of s)) where
@@ -76,7 +76,7 @@ module _ (im : List ℕ) (c l : ℕ) (shape : shape_fits c l ≡ true) (n : ℕ)
       moved_good : (sheet : List ℕ) → Good im c l (moved_on im sheet s p.0)
       unfolding moved_on moved_to
       moved_good sheet =
-          by_found (λ (f : Found). Good im c l (moved_to im sheet s f)) next_in (λ q i o. begun_good sheet q i o)
+          by_found (λ (f : Option ImagePlace). Good im c l (moved_to im sheet s f)) next_in (λ q i o. begun_good sheet q i o)
           (browsing_good im c l s g s.typed g.sized.typed)
 
       -- by the outcome of a key, with the working copy v that it gave

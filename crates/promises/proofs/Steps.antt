@@ -24,8 +24,8 @@ use Rattle.session.specs.Answers.{answer_number, taken, flash, is_flash, with_id
 use Rattle.session.specs.Fits.{cursor_line, cursor_head, levels_fit, tables_fit, mode_fits, entry_fits, session_fits}
 use Rattle.session.specs.Seconds.{browse_second, entry_second}
 use Rattle.cmf.specs.Places.{next_editable}
-use Rattle.cmf.specs.declared.place.Found.{Found}
-use Rattle.cmf.specs.declared.place.Found.TheVariants.{At, Nothing}
+use Rattle.std.specs.Prelude.{Option}
+use Rattle.std.specs.Prelude.{Some, None}
 use Rattle.session.specs.Browsing.{up_step, down_step, left_step, descended, right_step, enter_at, enter_step, browse_step}
 use Rattle.session.specs.Passwords.{right_to, entry_over, last_digit, digit_step, entry_step}
 use Rattle.session.specs.Visits.{moved_to, moved_on, followed, followed_sheet, visit_step, visit_sheet}
@@ -109,10 +109,10 @@ module _ (im : List ℕ) (s : Session) (e : ℕ) where
       (λ _. flashes)
 
   -- ENTER, whatever is found
-  found_kept : (sheet : List ℕ) (f : Found) → Kept (enter_at im sheet (with_idle s 0) f)
+  found_kept : (sheet : List ℕ) (f : Option ImagePlace) → Kept (enter_at im sheet (with_idle s 0) f)
   unfolding enter_at
-  found_kept sheet (At p) = heeds refl refl
-  found_kept sheet Nothing = flashes
+  found_kept sheet (Some p) = heeds refl refl
+  found_kept sheet None = flashes
 
   enter_kept : (sheet : List ℕ) → Kept (enter_step im sheet (with_idle s 0))
   unfolding enter_step
@@ -135,10 +135,10 @@ module _ (im : List ℕ) (s : Session) (e : ℕ) where
   -- ---- a visit
 
   -- the next visit, or browsing
-  moved_to_lem : (sheet : List ℕ) (f : Found) → (moved_to im sheet (with_idle s 0) f).idle ≡ 0
+  moved_to_lem : (sheet : List ℕ) (f : Option ImagePlace) → (moved_to im sheet (with_idle s 0) f).idle ≡ 0
   unfolding moved_to
-  moved_to_lem sheet (At p) = refl
-  moved_to_lem sheet Nothing = refl
+  moved_to_lem sheet (Some p) = refl
+  moved_to_lem sheet None = refl
 
   moved_on_lem : (sheet : List ℕ) (p : ℕ) → (moved_on im sheet (with_idle s 0) p).idle ≡ 0
   unfolding moved_on

@@ -17,8 +17,8 @@ use Rattle.field.specs.declared.work.Work.{Work}
 use Rattle.keys.specs.declared.press.Outcome.{Outcome}
 use Rattle.keys.specs.declared.press.Outcome.TheVariants as outcome
 use Rattle.cmf.specs.Readers.{text_bytes, head_at}
-use Rattle.cmf.specs.declared.place.Found.{Found}
-use Rattle.cmf.specs.declared.place.Found.TheVariants.{At, Nothing}
+use Rattle.std.specs.Prelude.{Option}
+use Rattle.std.specs.Prelude.{Some, None}
 use Rattle.acceptance.proofs.Acceptance.{accepted_exactly_when_well_formed}
 use Rattle.session.specs.Events.{last_digit_key, right, second}
 use Rattle.session.specs.Answers.{with_idle}
@@ -151,10 +151,10 @@ module _ (im : List ℕ) (s : Session) (e : ℕ) where
     left_moves = by_move _ (λ _. stays refl refl (omega arith) refl) (λ _. stays refl refl (omega arith) refl)
 
     -- ENTER opens a visit
-    entered_moves : (sheet : List ℕ) (f : Found) → Move im s e (enter_at im sheet (with_idle s 0) f)
+    entered_moves : (sheet : List ℕ) (f : Option ImagePlace) → Move im s e (enter_at im sheet (with_idle s 0) f)
     unfolding enter_at
-    entered_moves sheet (At p) = still refl refl (omega arith) refl
-    entered_moves sheet Nothing = stays refl refl (omega arith) refl
+    entered_moves sheet (Some p) = still refl refl (omega arith) refl
+    entered_moves sheet None = stays refl refl (omega arith) refl
 
     enter_moves : (sheet : List ℕ) → Move im s e (enter_step im sheet (with_idle s 0))
     unfolding enter_step
@@ -193,10 +193,10 @@ module _ (im : List ℕ) (s : Session) (e : ℕ) where
         (λ _. stays refl refl (omega arith) refl))))))
 
     -- a visit that is over leads to another, or to browsing
-    moved_to_lem : (sheet : List ℕ) (f : Found) (a : Answer) → Move im s e (record { session = moved_to im sheet (with_idle s 0) f; answer = a })
+    moved_to_lem : (sheet : List ℕ) (f : Option ImagePlace) (a : Answer) → Move im s e (record { session = moved_to im sheet (with_idle s 0) f; answer = a })
     unfolding moved_to
-    moved_to_lem sheet (At p) a = still refl refl (omega arith) refl
-    moved_to_lem sheet Nothing a = still refl refl (omega arith) refl
+    moved_to_lem sheet (Some p) a = still refl refl (omega arith) refl
+    moved_to_lem sheet None a = still refl refl (omega arith) refl
 
     moved_on_lem : (sheet : List ℕ) (p : ℕ) (a : Answer) → Move im s e (record { session = moved_on im sheet (with_idle s 0) p; answer = a })
     unfolding moved_on

@@ -12,7 +12,7 @@ use Rattle.cmf.specs.Readers.{component_at}
 use Rattle.cmf.specs.Places.{components_of, line_count, rest_of_line, first_editable}
 use Rattle.cmf.specs.declared.component.Component.{Component}
 use Rattle.cmf.specs.declared.head.Head.{Head}
-use Rattle.cmf.specs.declared.place.Found.{Found}
+use Rattle.std.specs.Prelude.{Option}
 use Rattle.session.specs.Fits.{cursor_head}
 use Rattle.session.specs.Answers.{taken, flash, in_mode, in_entry}
 use Rattle.session.specs.Browsing.{cursor_on, down_step, descended, right_step, visit_at, enter_at, enter_step}
@@ -51,7 +51,7 @@ pub visit_is : (im sheet : List ℕ) (s r : Session) (p : ImagePlace) (c : Compo
 visit_is im sheet s r p c w e f g = g ∙ rw (f, e)
 
 -- by what is found on the cursor line
-pub enter_is : (im sheet : List ℕ) (s : Session) (h : Head) (f : Found) (r : Stepped) → h ≡ cursor_head im s.here
+pub enter_is : (im sheet : List ℕ) (s : Session) (h : Head) (f : Option ImagePlace) (r : Stepped) → h ≡ cursor_head im s.here
     → f ≡ first_editable im (rest_of_line im h.component.0) → r ≡ enter_at im sheet s f → r ≡ enter_step im sheet s
 unfolding enter_step components_of cursor_head
 enter_is im sheet s h f r e g k = k ∙ rw (g, e)

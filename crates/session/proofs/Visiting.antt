@@ -11,7 +11,7 @@ use Rattle.field.specs.declared.work.Work.{Work}
 use Rattle.keys.specs.declared.press.Pressed.{Pressed}
 use Rattle.cmf.specs.Readers.{component_at}
 use Rattle.cmf.specs.Places.{next_editable}
-use Rattle.cmf.specs.declared.place.Found.{Found}
+use Rattle.std.specs.Prelude.{Option}
 use Rattle.cmf.specs.declared.component.Component.{Component}
 use Rattle.session.specs.Answers.{taken, with_idle}
 use Rattle.session.specs.Visits.{pressed, moved_to, moved_on, followed, followed_sheet, visit_step, visit_sheet}
@@ -34,7 +34,7 @@ module _ (k : Kind) (w : Work) (e : ℕ) (a : e ≡ 11 → ⊥) (b : e ≡ 12 �
 
 -- ---- the next component
 
-pub moved_is : (im sheet : List ℕ) (s r : Session) (p : ℕ) (f : Found) → f ≡ next_editable im p → r ≡ moved_to im sheet s f → r ≡ moved_on im sheet s p
+pub moved_is : (im sheet : List ℕ) (s r : Session) (p : ℕ) (f : Option ImagePlace) → f ≡ next_editable im p → r ≡ moved_to im sheet s f → r ≡ moved_on im sheet s p
 unfolding moved_on
 moved_is im sheet s r p f e g = g ∙ ap (moved_to im sheet s) e
 

@@ -6,8 +6,8 @@ use Rattle.field.specs.declared.kind.ImagePlace.{ImagePlace}
 use Rattle.cmf.specs.Limits.{deepest_table}
 use Rattle.cmf.specs.Readers.{component_at}
 use Rattle.cmf.specs.Places.{components_of, line_count, first_editable}
-use Rattle.cmf.specs.declared.place.Found.{Found}
-use Rattle.cmf.specs.declared.place.Found.TheVariants.{At, Nothing}
+use Rattle.std.specs.Prelude.{Option}
+use Rattle.std.specs.Prelude.{Some, None}
 use Rattle.session.specs.Session.{level, no_level}
 use Rattle.session.specs.Fits.{cursor_line, cursor_head}
 use Rattle.session.specs.Answers.{taken, flash, with_idle, showing, with_here, in_visit, in_entry}
@@ -65,9 +65,9 @@ abbrev pub visit_at : List ℕ → List ℕ → Session → ImagePlace → Sessi
 visit_at im sheet s p = in_visit s p (begun (component_at im p.0).field sheet)
 
 -- ENTER opens a visit to the first editable component of the cursor line, and flashes where there is none
-unfoldable pub enter_at : List ℕ → List ℕ → Session → Found → Stepped
-enter_at im sheet s (At p) = taken (visit_at im sheet s p)
-enter_at im sheet s Nothing = flash s
+unfoldable pub enter_at : List ℕ → List ℕ → Session → Option ImagePlace → Stepped
+enter_at im sheet s (Some p) = taken (visit_at im sheet s p)
+enter_at im sheet s None = flash s
 
 unfoldable pub enter_step : List ℕ → List ℕ → Session → Stepped
 enter_step im sheet s = enter_at im sheet s (first_editable im (components_of im (cursor_line im s.here)))

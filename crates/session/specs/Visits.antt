@@ -13,8 +13,8 @@ use Rattle.keys.specs.declared.press.Outcome.{Outcome}
 use Rattle.keys.specs.declared.press.Outcome.TheVariants as outcome
 use Rattle.cmf.specs.Readers.{component_at}
 use Rattle.cmf.specs.Places.{next_editable}
-use Rattle.cmf.specs.declared.place.Found.{Found}
-use Rattle.cmf.specs.declared.place.Found.TheVariants.{At, Nothing}
+use Rattle.std.specs.Prelude.{Option}
+use Rattle.std.specs.Prelude.{Some, None}
 use Rattle.session.specs.Answers.{taken, flash, with_idle, browsing, in_visit}
 use Rattle.session.specs.Browsing.{visit_at}
 use Rattle.session.specs.Events.{last_digit_key, up, down, left, right, enter, second}
@@ -35,9 +35,9 @@ pressed k w e =
     else key.flash w
 
 -- a visit is over: the next editable component of the line is visited, or editing ends
-unfoldable pub moved_to : List ℕ → List ℕ → Session → Found → Session
-moved_to im sheet s (At p) = visit_at im sheet s p
-moved_to im sheet s Nothing = browsing s
+unfoldable pub moved_to : List ℕ → List ℕ → Session → Option ImagePlace → Session
+moved_to im sheet s (Some p) = visit_at im sheet s p
+moved_to im sheet s None = browsing s
 
 unfoldable pub moved_on : List ℕ → List ℕ → Session → ℕ → Session
 moved_on im sheet s p = moved_to im sheet s (next_editable im p)

@@ -8,7 +8,7 @@ use crate::fits::rows_below;
 use crate::session::{Level, Mode, Session};
 use cmf::component::read_component;
 use cmf::image::Image;
-use cmf::place::{Found, first_editable, reach};
+use cmf::place::{first_editable, reach};
 use field::kind::ImagePlace;
 
 // The first shown line once the cursor is on a line.
@@ -61,8 +61,8 @@ impl Session {
         let cursor = self.here.cursor;
         let next = reach(image, self.here.table.0, cursor as usize + 1);
         match next {
-            Found::At(_) => self.cursor_on(cursor + 1).taken(),
-            Found::Nothing => self.flash(),
+            Some(_) => self.cursor_on(cursor + 1).taken(),
+            None => self.flash(),
         }
     }
 
@@ -131,8 +131,8 @@ impl Session {
         let h = self.here.cursor_head(image);
         let f = first_editable(image, h.component.0);
         match f {
-            Found::At(p) => self.visit_at(image, sheet, p).taken(),
-            Found::Nothing => self.flash(),
+            Some(p) => self.visit_at(image, sheet, p).taken(),
+            None => self.flash(),
         }
     }
 

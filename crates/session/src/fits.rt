@@ -11,7 +11,7 @@ use crate::session::{Level, Mode, Session};
 use cmf::component::read_component;
 use cmf::head::{Head, read_head};
 use cmf::image::Image;
-use cmf::place::{Found, is_on_line, line_at, reach};
+use cmf::place::{is_on_line, line_at, reach};
 use field::kind::{ImagePlace, Kind};
 use field::profile::profile_of;
 use field::work::Work;
@@ -59,22 +59,22 @@ impl Level {
     }
 
     // Its cursor line, where it shows the table at a place.
-    fn shown(self, image: &[u8], lines: u8, table: usize) -> Found
+    fn shown(self, image: &[u8], lines: u8, table: usize) -> Option<ImagePlace>
         ensures { result
             ≡ found_if (level_fits image.now lines table self)
             (cursor_line image.now self) }
     {
         if self.table.0 != table {
-            return Found::Nothing;
+            return None;
         }
         let cursor = self.cursor as usize;
         let first = self.first as usize;
         let shown = rows_below(lines);
         if cursor < first {
-            return Found::Nothing;
+            return None;
         }
         if first + shown <= cursor {
-            return Found::Nothing;
+            return None;
         }
         reach(image, table, cursor)
     }
@@ -117,7 +117,7 @@ fn shown_line(
     outer: u8,
     above: [Level; Session::MAX_ABOVE],
     here: Level,
-) -> Found
+) -> Option<ImagePlace>
     ensures { result
         ≡ found_if
         ((outer <? deepest_table) and levels_fit image.now lines prolog_bytes (take outer above) here)
@@ -125,19 +125,19 @@ fn shown_line(
 {
     let count = outer as usize;
     if Image::MAX_DEPTH <= count {
-        return Found::Nothing;
+        return None;
     }
     let mut t = Image::PROLOG;
     let mut i = 0;
     while i < count {
         let l = above[i];
         let line = l.shown(image, lines, t);
-        let Found::At(p) = line else {
-            return Found::Nothing;
+        let Some(p) = line else {
+            return None;
         };
         let h = read_head(image, p.0);
         if !h.submenu {
-            return Found::Nothing;
+            return None;
         }
         t = h.table.0;
         i = i + 1;
@@ -207,7 +207,7 @@ impl Session {
         let above = self.above;
         let here = self.here;
         let line = shown_line(image, self.lines, self.outer, above, here);
-        let Found::At(p) = line else {
+        let Some(p) = line else {
             return false;
         };
         let mode = self.mode;

@@ -9,7 +9,7 @@ ghost use Rattle.keys.specs.declared.press.Outcome.TheVariants as outcome;
 use crate::answer::{Answer, Stepped};
 use crate::session::{Mode, Session};
 use cmf::component::read_component;
-use cmf::place::{Found, next_editable};
+use cmf::place::{next_editable};
 use field::kind::{ImagePlace, Kind};
 use field::profile::{cell_of, profile_of};
 use field::record::Field;
@@ -50,8 +50,8 @@ impl Session {
     {
         let f = next_editable(image, place);
         match f {
-            Found::At(p) => self.visit_at(image, sheet, p),
-            Found::Nothing => {
+            Some(p) => self.visit_at(image, sheet, p),
+            None => {
                 let work = self.work;
                 let typed = self.typed;
                 self.in_mode(Mode::Browsing, work, typed)

@@ -2,4 +2,4 @@
 use Rattle.cmf.proofs.component.component_read.Goals as goal
 
 pub returns : goal.returns
-returns c = simp (c.field_by-field.ensures, c.nine_unless.ensures, c.settings_fit.ensures, c.is_editable.ensures, c.is_field.ensures)
+returns c = simp (c.field_by-field.ensures, c.setting_refusal.ensures, c.settings_fit.ensures, c.is_editable.ensures, c.is_field.ensures)

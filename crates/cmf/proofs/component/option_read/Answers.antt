@@ -4,4 +4,4 @@ use Rattle.cmf.proofs.component.option_read.Goals as goal
 
 pub returns : goal.returns
 unfolding when◌then◌else◌
-returns c = simp (c.option_field.ensures, c.nine_unless.ensures, c.option_fits.ensures)
+returns c = simp (c.option_field.ensures, c.setting_refusal.ensures, c.option_fits.ensures)

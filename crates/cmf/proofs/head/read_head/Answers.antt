@@ -7,13 +7,13 @@ use Rattle.cmf.proofs.Turning.{head_short}
 use Rattle.cmf.proofs.head.read_head.Goals as goal
 
 pub bounds-image-p : goal.bounds-image-p
-bounds-image-p c = omega (arith, room_le _ _ _ (via c.room-whole.ensures c.if-whole.true))
+bounds-image-p c = omega (arith, room_le _ _ _ (via c.room.ensures c.if-room.true))
 
 pub short_head-requires : goal.short_head-requires
-short_head-requires c = (room_le _ _ _ (via c.room-whole.ensures c.if-whole.true), c.if-tag-lt16.true)
+short_head-requires c = (room_le _ _ _ (via c.room.ensures c.if-room.true), c.if-tag-lt16.true)
 
 pub returns-then-tag-lt16 : goal.returns-then-tag-lt16
-returns-then-tag-lt16 c = c.short_head.ensures ∙ sym (head_short c.args.image.now c.args.p (room_le _ _ _ (via c.room-whole.ensures c.if-whole.true)) c.if-tag-lt16.true)
+returns-then-tag-lt16 c = c.short_head.ensures ∙ sym (head_short c.args.image.now c.args.p (room_le _ _ _ (via c.room.ensures c.if-room.true)) c.if-tag-lt16.true)
 
 pub returns : goal.returns
 returns c = c.any_head-other.ensures

@@ -7,6 +7,3 @@ use Rattle.cmf.proofs.place.line_count.Given as goal
 
 abbrev pub invariant-loop-n : goal.invariant-loop-n
 invariant-loop-n l = l.n + length (lines_from l.image (100 - l.n) l.p) ≡ length (lines_from l.image 100 l.initial.p)
-
-abbrev pub decreases-loop-n : goal.decreases-loop-n
-decreases-loop-n l = 100 - l.n

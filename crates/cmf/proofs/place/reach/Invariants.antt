@@ -4,8 +4,5 @@ use mathlib.Core.Path.{◌≡◌}
 use Rattle.cmf.proofs.Finding.{ahead}
 use Rattle.cmf.proofs.place.reach.Given as goal
 
-abbrev pub invariant-loop-left : goal.invariant-loop-left
-invariant-loop-left l = (l.k ≤ 99) × (ahead l.image (100 - l.k) l.left l.p ≡ ahead l.image (100 - l.k) l.k l.initial.p)
-
-abbrev pub decreases-loop-left : goal.decreases-loop-left
-decreases-loop-left l = l.left
+abbrev pub invariant-loop : goal.invariant-loop
+invariant-loop l = (l.k ≤ 99) × (ahead l.image (100 - l.k) (l.k - l.counter) l.p ≡ ahead l.image (100 - l.k) l.k l.initial.p)

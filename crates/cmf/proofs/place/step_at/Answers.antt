@@ -6,24 +6,23 @@ use Rattle.laws.proofs.Rooms.{room_le}
 use Rattle.cmf.specs.declared.head.Head.{Head}
 use Rattle.cmf.proofs.Turning.{head_short, head_protected}
 use Rattle.cmf.proofs.place.step_at.Goals as goal
+use Rattle.cmf.proofs.place.step_at.Goals.{then-tag-lt16-via-then-tag-lt16, then-tag-lt16-via-else-tag-lt16+then-is_protected}
 
 pub bounds-image-p : goal.bounds-image-p
-bounds-image-p c = omega (arith, room_le _ _ _ (via c.room-whole.ensures c.if-whole.true))
+bounds-image-p c = omega (arith, room_le _ _ _ (via c.room.ensures c.if-room.true))
+
+pub is_protected-requires : goal.is_protected-requires
+is_protected-requires c = room_le _ _ _ (via c.room.ensures c.if-room.true)
 
 pub read-requires : goal.read-requires
-read-requires c = room_le _ _ _ (via c.room-whole.ensures c.if-whole.true)
+read-requires c = room_le _ _ _ (via c.room.ensures c.if-room.true)
 
 pub returns-then-tag-lt16 : goal.returns-then-tag-lt16
-returns-then-tag-lt16 c = let e = head_short c.args.image.now c.args.p (room_le _ _ _ (via c.room-whole.ensures c.if-whole.true)) c.if-tag-lt16.true in (c.read.ensures.0 ∙ sym (ap (λ (h : Head). h.last) e), c.read.ensures.1 ∙ sym (ap (λ (h : Head). h.next.0) e))
-
-pub is_protected-protected-requires : goal.is_protected-protected-requires
-is_protected-protected-requires c = room_le _ _ _ (via c.room-whole.ensures c.if-whole.true)
-
-pub read-requires-then-protected : goal.read-requires-then-protected
-read-requires-then-protected c = room_le _ _ _ (via c.room-whole.ensures c.if-whole.true)
-
-pub returns-then-protected : goal.returns-then-protected
-returns-then-protected c = let w = c.is_protected-protected.ensures c.if-protected.true in let e = head_protected c.args.image.now c.args.p (room_le _ _ _ (via c.room-whole.ensures c.if-whole.true)) w.0 w.1 w.2 in (c.read-then-protected.ensures.0 ∙ sym (ap (λ (h : Head). h.last) e), c.read-then-protected.ensures.1 ∙ sym (ap (λ (h : Head). h.next.0) e))
-
-pub returns : goal.returns
-returns c = (ap (λ (h : Head). h.last) c.any_head-h.ensures, ap (λ (h : Head). h.next.0) c.any_head-h.ensures)
+returns-then-tag-lt16 c =
+    let im = c.args.image.now in
+    let p = c.args.p in
+    let b = room_le _ _ _ (via c.room.ensures c.if-room.true) in
+    elim c.then-tag-lt16.branch [
+      | then-tag-lt16-via-then-tag-lt16 w ↦ let e = head_short im p b w.if-tag-lt16.true in (c.read.ensures.0 ∙ sym (ap (λ (h : Head). h.last) e), c.read.ensures.1 ∙ sym (ap (λ (h : Head). h.next.0) e))
+      | then-tag-lt16-via-else-tag-lt16+then-is_protected w ↦ let q = w.is_protected.ensures w.if-is_protected.true in let e = head_protected im p b q.0 q.1 q.2 in (c.read.ensures.0 ∙ sym (ap (λ (h : Head). h.last) e), c.read.ensures.1 ∙ sym (ap (λ (h : Head). h.next.0) e))
+    ]

@@ -10,18 +10,18 @@ use Rattle.laws.proofs.Rooms.{room_le}
 use Rattle.cmf.proofs.text.text_bytes.Goals as goal
 
 pub overflow_add-start : goal.overflow_add-start
-overflow_add-start c = omega (arith, room_le (length c.args.image.now) c.args.at (1 + c.byte_at-n.result) (via c.room-whole.ensures c.if-whole.true))
+overflow_add-start c = omega (arith, room_le (length c.args.image.now) c.args.at (1 + c.byte_at-n.result) (via c.room.ensures c.if-room.true))
 
 pub overflow_add-end : goal.overflow_add-end
-overflow_add-end c = omega (arith, room_le (length c.args.image.now) c.args.at (1 + c.byte_at-n.result) (via c.room-whole.ensures c.if-whole.true))
+overflow_add-end c = omega (arith, room_le (length c.args.image.now) c.args.at (1 + c.byte_at-n.result) (via c.room.ensures c.if-room.true))
 
 pub slice_bounds-result-end : goal.slice_bounds-result-end
-slice_bounds-result-end c = omega (arith, room_le (length c.args.image.now) c.args.at (1 + c.byte_at-n.result) (via c.room-whole.ensures c.if-whole.true))
+slice_bounds-result-end c = omega (arith, room_le (length c.args.image.now) c.args.at (1 + c.byte_at-n.result) (via c.room.ensures c.if-room.true))
 
-pub returns-then-whole : goal.returns-then-whole
+pub returns-then-room : goal.returns-then-room
 unfolding text_bytes when◌then◌else◌
-returns-then-whole c = let z : c.args.at + 1 + c.byte_at-n.result - (c.args.at + 1) ≡ c.byte_at-n.result = omega arith in simp (← c.byte_at-n.ensures, ← c.room-whole.ensures, c.if-whole.true, z)
+returns-then-room c = let z : c.args.at + 1 + c.byte_at-n.result - (c.args.at + 1) ≡ c.byte_at-n.result = omega arith in simp (← c.byte_at-n.ensures, ← c.room.ensures, c.if-room.true, z)
 
 pub returns : goal.returns
 unfolding text_bytes when◌then◌else◌
-returns c = simp (← c.byte_at-n.ensures, ← c.room-whole.ensures, c.if-whole.false)
+returns c = simp (← c.byte_at-n.ensures, ← c.room.ensures, c.if-room.false)

@@ -7,8 +7,8 @@ use Rattle.picture.proofs.title.edit_mark.Goals as goal
 pub returns-then-mark-ne0 : goal.returns-then-mark-ne0
 returns-then-mark-ne0 c = c.requires.1 c.if-mark-ne0.true
 
-pub returns-in-At : goal.returns-in-At
-returns-in-At c = mark_is _ _ _ _ (head_there _ c.args.level _ _ c.read_head-h.result refl c.requires.0 c.read_head-h.ensures) c.first_editable-f.ensures (rw c.in-At.is)
+pub returns-in-Some : goal.returns-in-Some
+returns-in-Some c = mark_is _ _ _ _ (head_there _ c.args.level _ _ c.read_head-h.result refl c.requires.0 c.read_head-h.ensures) c.first_editable-f.ensures (rw c.in-Some.is)
 
-pub returns-in-Nothing : goal.returns-in-Nothing
-returns-in-Nothing c = mark_is _ _ _ _ (head_there _ c.args.level _ _ c.read_head-h.result refl c.requires.0 c.read_head-h.ensures) c.first_editable-f.ensures (rw c.in-Nothing.is)
+pub returns-in-None : goal.returns-in-None
+returns-in-None c = mark_is _ _ _ _ (head_there _ c.args.level _ _ c.read_head-h.result refl c.requires.0 c.read_head-h.ensures) c.first_editable-f.ensures (rw c.in-None.is)

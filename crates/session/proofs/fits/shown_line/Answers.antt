@@ -17,10 +17,10 @@ pub returns-in_default : goal.returns-in_default
 returns-in_default c = sym (if_false _ _ (and_true _ (lt-ltb _ _ c.if-count-ge-MAX_DEPTH.false) ∙ sym c.loop-i.invariant.0 ∙ level_bad c.args.image.now c.args.lines c.loop-i.t c.args.above c.loop-i.i c.args.outer c.args.here c.loop-i-test.true c.loop-i.invariant.2 (found_none _ c.shown-line.ensures c.in_default.is)))
 
 pub returns-then-not-h : goal.returns-then-not-h
-returns-then-not-h c = sym (if_false _ _ (and_true _ (lt-ltb _ _ c.if-count-ge-MAX_DEPTH.false) ∙ sym c.loop-i.invariant.0 ∙ level_plain c.args.image.now c.args.lines c.loop-i.t c.args.above c.loop-i.i c.args.outer c.args.here c.read_head-h.result c.loop-i-test.true c.loop-i.invariant.2 (found_at _ c.shown-line.ensures c.in-At.is).0 (head_there _ _ _ _ c.read_head-h.result refl (found_at _ c.shown-line.ensures c.in-At.is).1 c.read_head-h.ensures) (not-true c.read_head-h.result.submenu c.if-not-h.true)))
+returns-then-not-h c = sym (if_false _ _ (and_true _ (lt-ltb _ _ c.if-count-ge-MAX_DEPTH.false) ∙ sym c.loop-i.invariant.0 ∙ level_plain c.args.image.now c.args.lines c.loop-i.t c.args.above c.loop-i.i c.args.outer c.args.here c.read_head-h.result c.loop-i-test.true c.loop-i.invariant.2 (found_at _ c.shown-line.ensures c.in-Some.is).0 (head_there _ _ _ _ c.read_head-h.result refl (found_at _ c.shown-line.ensures c.in-Some.is).1 c.read_head-h.ensures) (not-true c.read_head-h.result.submenu c.if-not-h.true)))
 
 pub loop-i-preserved : goal.loop-i-preserved
-loop-i-preserved c = (level_next c.args.image.now c.args.lines c.loop-i.t c.args.above c.loop-i.i c.args.outer c.args.here c.read_head-h.result c.loop-i-test.true c.loop-i.invariant.2 (found_at _ c.shown-line.ensures c.in-At.is).0 (head_there _ _ _ _ c.read_head-h.result refl (found_at _ c.shown-line.ensures c.in-At.is).1 c.read_head-h.ensures) (not-false c.read_head-h.result.submenu c.if-not-h.false) ∙ c.loop-i.invariant.0, omega arith, c.loop-i.invariant.2)
+loop-i-preserved c = (level_next c.args.image.now c.args.lines c.loop-i.t c.args.above c.loop-i.i c.args.outer c.args.here c.read_head-h.result c.loop-i-test.true c.loop-i.invariant.2 (found_at _ c.shown-line.ensures c.in-Some.is).0 (head_there _ _ _ _ c.read_head-h.result refl (found_at _ c.shown-line.ensures c.in-Some.is).1 c.read_head-h.ensures) (not-false c.read_head-h.result.submenu c.if-not-h.false) ∙ c.loop-i.invariant.0, omega arith, c.loop-i.invariant.2)
 
 pub returns : goal.returns
 returns c = c.shown.ensures ∙ rw (sym (level_last c.args.image.now c.args.lines c.loop-i.t c.args.above c.loop-i.i c.args.outer c.args.here c.loop-i-test.false) ∙ c.loop-i.invariant.0 ∙ sym (and_true _ (lt-ltb _ _ c.if-count-ge-MAX_DEPTH.false)))

@@ -4,10 +4,10 @@ use Rattle.session.specs.Browsing.{enter_at}
 use Rattle.session.proofs.Moving.{enter_is}
 use Rattle.session.proofs.session.Session.enter.Goals as goal
 
-pub returns-in-At : goal.returns-in-At
+pub returns-in-Some : goal.returns-in-Some
 unfolding enter_at
-returns-in-At c = enter_is _ _ c.args.self _ _ _ c.cursor_head-h.ensures c.first_editable-f.ensures (c.taken.ensures ∙ rw (c.visit_at.ensures, c.in-At.is))
+returns-in-Some c = enter_is _ _ c.args.self _ _ _ c.cursor_head-h.ensures c.first_editable-f.ensures (c.taken.ensures ∙ rw (c.visit_at.ensures, c.in-Some.is))
 
-pub returns-in-Nothing : goal.returns-in-Nothing
+pub returns-in-None : goal.returns-in-None
 unfolding enter_at
-returns-in-Nothing c = enter_is _ _ c.args.self _ _ _ c.cursor_head-h.ensures c.first_editable-f.ensures (c.flash.ensures ∙ rw c.in-Nothing.is)
+returns-in-None c = enter_is _ _ c.args.self _ _ _ c.cursor_head-h.ensures c.first_editable-f.ensures (c.flash.ensures ∙ rw c.in-None.is)

@@ -15,12 +15,12 @@ returns-in_default c = fits_tables _ c.args.self (via c.shape_fits-shape.ensures
 
 pub returns-in-Browsing : goal.returns-in-Browsing
 unfolding tables_fit mode_fits
-returns-in-Browsing c = fits_mode _ c.args.self (via c.shape_fits-shape.ensures c.if-not-shape.false) (found_at _ c.shown_line-line.ensures c.in-At.is).0 (rw c.in-Browsing.is)
+returns-in-Browsing c = fits_mode _ c.args.self (via c.shape_fits-shape.ensures c.if-not-shape.false) (found_at _ c.shown_line-line.ensures c.in-Some.is).0 (rw c.in-Browsing.is)
 
 pub returns-in-Visit : goal.returns-in-Visit
 unfolding tables_fit mode_fits
-returns-in-Visit c = fits_mode _ c.args.self (via c.shape_fits-shape.ensures c.if-not-shape.false) (found_at _ c.shown_line-line.ensures c.in-At.is).0 (c.visit_fits.ensures ∙ rw ((found_at _ c.shown_line-line.ensures c.in-At.is).1, c.in-Visit.is))
+returns-in-Visit c = fits_mode _ c.args.self (via c.shape_fits-shape.ensures c.if-not-shape.false) (found_at _ c.shown_line-line.ensures c.in-Some.is).0 (c.visit_fits.ensures ∙ rw ((found_at _ c.shown_line-line.ensures c.in-Some.is).1, c.in-Visit.is))
 
 pub returns-in-Password : goal.returns-in-Password
 unfolding tables_fit mode_fits
-returns-in-Password c = fits_mode _ c.args.self (via c.shape_fits-shape.ensures c.if-not-shape.false) (found_at _ c.shown_line-line.ensures c.in-At.is).0 (c.entry_fits.ensures ∙ rw ((found_at _ c.shown_line-line.ensures c.in-At.is).1, c.in-Password.is))
+returns-in-Password c = fits_mode _ c.args.self (via c.shape_fits-shape.ensures c.if-not-shape.false) (found_at _ c.shown_line-line.ensures c.in-Some.is).0 (c.entry_fits.ensures ∙ rw ((found_at _ c.shown_line-line.ensures c.in-Some.is).1, c.in-Password.is))
