@@ -5,6 +5,7 @@ use mathlib.Core.Path.{◌≡◌, refl, sym, ap, ◌∙◌}
 use mathlib.Core.List.{List, [], ◌∷◌, map}
 use native.Mathlib.Omega.{arith}
 use lib.ListN.{length, length-map}
+use Rattle.cmf.specs.Refusals.{refusal_number}
 use Rattle.field.specs.declared.record.Field.{Field}
 use Rattle.cmf.specs.Limits.{most_fields}
 use Rattle.cmf.specs.Grammar.{WellFormed}
@@ -46,10 +47,10 @@ module _ (im : List ℕ) (extent : ℕ) where
   checked_places z = ap (map (λ (e : Entry). e.place.0)) (checked_fields z) ∙ entry_places (fields_of im)
 
   -- what the check hands out is read back, where it refuses nothing
-  pub index_read : (v : Progress) (xs : List ℕ) → v ≡ (checked im extent).progress → xs ≡ index_of (checked im extent).fields → v.refusal ≡ 0 → seen v xs ≡ checked im extent
+  pub index_read : (v : Progress) (xs : List ℕ) → v ≡ (checked im extent).progress → xs ≡ index_of (checked im extent).fields → refusal_number v.refusal ≡ 0 → seen v xs ≡ checked im extent
   unfolding refusal_of
   index_read v xs e f z =
-      let w = accepted_exactly_when_well_formed.0 (ap (λ (u : Progress). u.refusal) (sym e) ∙ z) in
+      let w = accepted_exactly_when_well_formed.0 (ap (λ (u : Progress). refusal_number u.refusal) (sym e) ∙ z) in
       let c = counted w in
       let n : (checked im extent).progress.fields ≡ length (checked im extent).fields = c.fields ∙ sym (length-map w.fields entry_of) ∙ ap length (sym c.index) in
       let few : length (checked im extent).fields ≤ most_fields = omega (arith, n, c.fields, w.few_fields) in

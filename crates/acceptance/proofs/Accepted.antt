@@ -6,30 +6,33 @@ use native.Mathlib.Omega.{arith}
 use native.Mathlib.Nat.{zero-add}
 use lib.ListN.{length, length-map}
 use borrow.Author.Tests.{ltb-false, eqb-true, eqb-false, eq-eqb}
+use Rattle.std.specs.Prelude.{Option}
+use Rattle.cmf.specs.Refusals.{refusal_number}
+use Rattle.cmf.specs.declared.refusal.Refusal.{Refusal}
 use Rattle.laws.specs.Choice.{◌and◌, ◌=?◌, ◌<?◌}
 use Rattle.laws.specs.Bytes.{byte_at}
 use Rattle.laws.proofs.Cases.{if_ind, if_ge, if_true, if_eq, and_i, and_l, and_r}
 use Rattle.cmf.specs.Limits.{longest_image, deepest_table, most_fields, prolog_bytes}
 use Rattle.cmf.specs.Grammar.{Prolog, WellFormed}
 use Rattle.cmf.proofs.Agreement.{Agree}
-use Rattle.acceptance.specs.Check.{State, fine, entry_of, walked, prolog_code, checked, refusal_of}
+use Rattle.acceptance.specs.Check.{State, fine, entry_of, walked, prolog_refusal, checked, refusal_of}
 use Rattle.acceptance.proofs.Takes.{fits_takes, takes_fits, beside_none}
 use Rattle.acceptance.proofs.Line.{Came}
 use Rattle.acceptance.proofs.Tables.{table_goes, table_read}
 
 module _ (im : List ℕ) where
   -- the prolog
-  pub prolog_is : Prolog im → prolog_code im ≡ 0
-  unfolding prolog_code
-  prolog_is p =
+  pub prolog_is : Prolog im → refusal_number (prolog_refusal im) ≡ 0
+  unfolding prolog_refusal
+  prolog_is p = ap refusal_number (
       if_ge (length im) prolog_bytes _ _ p.least
       ∙ if_ge longest_image (length im) _ _ p.most
       ∙ if_true _ _ (and_i (eq-eqb _ 0x43 p.id_c) (and_i (eq-eqb _ 0x4d p.id_m) (eq-eqb _ 0x46 p.id_f)))
       ∙ if_true _ _ (and_i (eq-eqb _ 0 p.major) (eq-eqb _ 4 p.minor))
-      ∙ if_true _ _ (and_i (eq-eqb _ 0xff p.mark_low) (eq-eqb _ 0xfe p.mark_high))
+      ∙ if_true _ _ (and_i (eq-eqb _ 0xff p.mark_low) (eq-eqb _ 0xfe p.mark_high)))
 
-  pub prolog_read : prolog_code im ≡ 0 → Prolog im
-  unfolding prolog_code
+  pub prolog_read : refusal_number (prolog_refusal im) ≡ 0 → Prolog im
+  unfolding prolog_refusal
   prolog_read =
       if_ind P (length im <? prolog_bytes) (λ _ z. absurd (omega arith))
       (λ a. if_ind P (longest_image <? length im) (λ _ z. absurd (omega arith))
@@ -51,8 +54,8 @@ module _ (im : List ℕ) where
       (λ _ z. absurd (omega arith)))
       (λ _ z. absurd (omega arith))))
     where
-      P : ℕ → Type 0
-      P k = k ≡ 0 → Prolog im
+      P : Option Refusal → Type 0
+      P r = refusal_number r ≡ 0 → Prolog im
 
 module _ (im : List ℕ) (extent : ℕ) (A : Agree im) where
   -- a well-formed image is walked to its end
@@ -61,13 +64,13 @@ module _ (im : List ℕ) (extent : ℕ) (A : Agree im) where
   walked_is w =
       let t = fits_takes extent most_fields [] {fs = w.fields} (omega arith) w.inside (beside_none w.fields) w.apart in
       let c = table_goes im A extent most_fields deepest_table prolog_bytes 0 0 [] w.fields w.lines w.table t (omega arith) in
-      record { end = c.end; is = if_eq (prolog_code im) 0 _ _ (prolog_is im w.prolog) ∙ c.is ∙ rw zero-add }
+      record { end = c.end; is = if_eq (refusal_number (prolog_refusal im)) 0 _ _ (prolog_is im w.prolog) ∙ c.is ∙ rw zero-add }
 
   pub well_formed_is_accepted : WellFormed im extent → refusal_of im extent ≡ 0
   unfolding refusal_of
-  well_formed_is_accepted w = ap (λ (s : State). s.progress.refusal) (walked_is w).is
+  well_formed_is_accepted w = ap (λ (s : State). refusal_number s.progress.refusal) (walked_is w).is
 
-  accepted_walk : (walked im extent).progress.refusal ≡ 0 → Prolog im → WellFormed im extent
+  accepted_walk : refusal_number (walked im extent).progress.refusal ≡ 0 → Prolog im → WellFormed im extent
   unfolding walked fine
   accepted_walk z p =
       let r = table_read im A extent most_fields deepest_table prolog_bytes 0 0 [] (eq-eqb _ 0 z) in
@@ -86,9 +89,9 @@ module _ (im : List ℕ) (extent : ℕ) (A : Agree im) where
   pub accepted_is_well_formed : refusal_of im extent ≡ 0 → WellFormed im extent
   unfolding refusal_of checked
   accepted_is_well_formed =
-      if_ind (λ (s : State). s.progress.refusal ≡ 0 → WellFormed im extent) (prolog_code im =? 0)
+      if_ind (λ (s : State). refusal_number s.progress.refusal ≡ 0 → WellFormed im extent) (refusal_number (prolog_refusal im) =? 0)
       (λ e z. accepted_walk z (prolog_read im (eqb-true _ 0 e)))
-      (λ e z. absurd (eqb-false (prolog_code im) 0 e z))
+      (λ e z. absurd (eqb-false (refusal_number (prolog_refusal im)) 0 e z))
 
 -- 01: an image is refused with no number exactly when it is well formed
 pub accepted_exactly_when_well_formed :

@@ -5,6 +5,7 @@ use mathlib.Core.Bool.{true}
 use mathlib.Core.List.{List, map}
 use native.Mathlib.Omega.{arith}
 use borrow.Author.Tests.{eqb-true}
+use Rattle.cmf.specs.Refusals.{refusal_number}
 use Rattle.laws.specs.Choice.{◌=?◌}
 use Rattle.laws.proofs.Cases.{if_ind}
 use Rattle.field.specs.declared.record.Field.{Field}
@@ -21,8 +22,8 @@ use Rattle.acceptance.proofs.PartJudging.{part_judged}
 -- the refusal with which the check answers at a structure that has so many lines and these fields before it
 abbrev pub answer : List ℕ → ℕ → ℕ → Structure → ℕ → List Entry → ℕ
 answer im extent most (Structure.title left t) lines es = title_answer im left t
-answer im extent most (Structure.head n before at p) lines es = (on_head im extent most n before p (came_to at lines es)).progress.refusal
-answer im extent most (Structure.component at p) lines es = (on_component im extent most p (came_to at lines es)).progress.refusal
+answer im extent most (Structure.head n before at p) lines es = refusal_number (on_head im extent most n before p (came_to at lines es)).progress.refusal
+answer im extent most (Structure.component at p) lines es = refusal_number (on_component im extent most p (came_to at lines es)).progress.refusal
 
 -- a component that the walk comes to is at the first even offset
 pub data Sits : Structure → Type 0 where
@@ -70,22 +71,22 @@ judged im extent lines fs (Structure.component at p) (Sits.component o) = part_j
 -- ---- two steps in turn
 
 -- a refusal of the first is that of both
-pub stops : (x y : State) (r : ℕ) → 0 < r → x.progress.refusal ≡ r → (and_then x y).progress.refusal ≡ r
+pub stops : (x y : State) (r : ℕ) → 0 < r → refusal_number x.progress.refusal ≡ r → refusal_number (and_then x y).progress.refusal ≡ r
 unfolding and_then fine
 stops x y r h e =
-    if_ind (λ (s : State). s.progress.refusal ≡ r) (x.progress.refusal =? 0) (λ q. absurd (omega (arith, eqb-true x.progress.refusal 0 q))) (λ _. e)
+    if_ind (λ (s : State). refusal_number s.progress.refusal ≡ r) (refusal_number x.progress.refusal =? 0) (λ q. absurd (omega (arith, eqb-true (refusal_number x.progress.refusal) 0 q))) (λ _. e)
 
 -- a refusal of both is that of the first, or the first is fine and it is that of the second
 pub data Turn (x y : State) (r : ℕ) : Type 0 where
-  stopped : x.progress.refusal ≡ r → Turn x y r
-  went : fine x ≡ true → y.progress.refusal ≡ r → Turn x y r
+  stopped : refusal_number x.progress.refusal ≡ r → Turn x y r
+  went : fine x ≡ true → refusal_number y.progress.refusal ≡ r → Turn x y r
 
-pub turn : (x y : State) (r : ℕ) → (and_then x y).progress.refusal ≡ r → Turn x y r
+pub turn : (x y : State) (r : ℕ) → refusal_number (and_then x y).progress.refusal ≡ r → Turn x y r
 unfolding and_then fine
 turn x y r =
-    if_ind (λ (s : State). s.progress.refusal ≡ r → Turn x y r) (x.progress.refusal =? 0) (λ q e. Turn.went q e) (λ _ e. Turn.stopped e)
+    if_ind (λ (s : State). refusal_number s.progress.refusal ≡ r → Turn x y r) (refusal_number x.progress.refusal =? 0) (λ q e. Turn.went q e) (λ _ e. Turn.stopped e)
 
 -- what is fine has no refusal
-pub fine_none : {A : Type 0} (x : State) (r : ℕ) → 0 < r → fine x ≡ true → x.progress.refusal ≡ r → A
+pub fine_none : {A : Type 0} (x : State) (r : ℕ) → 0 < r → fine x ≡ true → refusal_number x.progress.refusal ≡ r → A
 unfolding fine
-fine_none x r h f e = absurd (omega (arith, eqb-true x.progress.refusal 0 f))
+fine_none x r h f e = absurd (omega (arith, eqb-true (refusal_number x.progress.refusal) 0 f))

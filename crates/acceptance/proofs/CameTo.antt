@@ -1,5 +1,5 @@
 -- The state of a walk that has refused nothing, and two steps in turn.
-use Prim.Native.Nat.{ℕ, suc, ◌+◌}
+use Prim.Native.Nat.{ℕ, ◌+◌}
 use mathlib.Core.Path.{◌≡◌, refl, sym, ◌∙◌}
 use mathlib.Core.Bool.{Bool, true, false, true≢false}
 use mathlib.Core.List.{List, ◌++◌, map, map-append, append_assoc}
@@ -7,11 +7,15 @@ use native.Mathlib.Omega.{arith}
 use native.Mathlib.Nat.{add_assoc}
 use lib.ListN.{length}
 use borrow.Author.Tests.{ne_eqb}
+use Rattle.std.specs.Prelude.{Option, Some, None}
+use Rattle.cmf.specs.Refusals.{number, refusal_number}
+use Rattle.cmf.proofs.Numbers.{number_positive}
+use Rattle.cmf.specs.declared.refusal.Refusal.{Refusal}
 use Rattle.laws.specs.Choice.{when◌then◌else◌, ◌=?◌}
 use Rattle.laws.proofs.Cases.{if_true}
 use Rattle.field.specs.declared.record.Field.{Field}
 use Rattle.acceptance.specs.declared.index.Entry.{Entry}
-use Rattle.acceptance.specs.Check.{State, state, with, fine, refused, and_then, entry_of}
+use Rattle.acceptance.specs.Check.{State, state, with, fine, stopped, refused, and_then, entry_of}
 
 -- what cannot be
 pub clash : {A : Type 0} {b : Bool} → b ≡ true → b ≡ false → A
@@ -19,7 +23,7 @@ clash p q = absurd (true≢false (sym p ∙ q))
 
 -- the walk has come to `at`, with so many lines and these fields
 abbrev pub came_to : ℕ → ℕ → List Entry → State
-came_to at lines es = state (record { refusal = 0; at = at; lines = lines; fields = length es }) es
+came_to at lines es = state (record { refusal = None; at = at; lines = lines; fields = length es }) es
 
 -- the entries es with those of the fields fs after them
 abbrev pub put : List Entry → List Field → List Entry
@@ -40,12 +44,12 @@ pub stood_fine : (at lines : ℕ) (es : List Entry) → fine (came_to at lines e
 unfolding fine
 stood_fine at lines es = refl
 
-pub code_refused : {A : Type 0} (s : State) (k : ℕ) → k =? 0 ≡ false → fine (with s (refused s.progress k)) ≡ true → A
+pub code_refused : {A : Type 0} (s : State) (r : Option Refusal) → refusal_number r =? 0 ≡ false → fine (with s (stopped s.progress r)) ≡ true → A
 unfolding fine
-code_refused s k e h = clash h e
+code_refused s r e h = clash h e
 
-pub is_refused_lem : {A : Type 0} (s : State) (k : ℕ) → fine (with s (refused s.progress (suc k))) ≡ true → A
-is_refused_lem s k h = code_refused s (suc k) (ne_eqb (suc k) 0 (λ e. omega arith)) h
+pub is_refused_lem : {A : Type 0} (s : State) (r : Refusal) → fine (with s (refused s.progress r)) ≡ true → A
+is_refused_lem s r h = code_refused s (Some r) (ne_eqb (number r) 0 (λ e. omega (arith, number_positive r))) h
 
 -- two steps in turn that end without a refusal
 pub record Then (x y : State) : Type 0 where

@@ -9,6 +9,8 @@ use lib.ListN.{length, get_or, set, length-set}
 use lib.Seq.{get_or-set_same, get_or-set_other}
 use lib.Dec.{eqb, leb}
 use borrow.Author.Tests.{eq-eqb, ne_eqb, le-leb, lt-leb, eqb-true, eqb-false, leb-true, leb-false}
+use Rattle.cmf.specs.Refusals.{refusal_number}
+use Rattle.cmf.specs.declared.refusal.Refusal.TheVariants as fault
 use Rattle.laws.specs.Choice.{when◌then◌else◌, ◌and◌}
 use Rattle.laws.proofs.Cases.{by_test, if_ind, if_eq, if_ne, if_lt, and_i, and_false}
 use Rattle.cmf.specs.Readers.{title_at, head_at, component_at}
@@ -134,11 +136,11 @@ module _ (e : Entry) (xs : List ℕ) (i : ℕ) where
 -- ---- the walk's state
 
 module _ (x y : State) where
-  pub then_no : (x.progress.refusal ≡ 0 → ⊥) → and_then x y ≡ x
+  pub then_no : (refusal_number x.progress.refusal ≡ 0 → ⊥) → and_then x y ≡ x
   unfolding and_then fine
   then_no h = if_ne _ 0 _ _ h
 
-  pub then_yes : x.progress.refusal ≡ 0 → and_then x y ≡ y
+  pub then_yes : refusal_number x.progress.refusal ≡ 0 → and_then x y ≡ y
   unfolding and_then fine
   then_yes h = if_eq _ 0 _ _ h
 
@@ -179,14 +181,14 @@ module _ (im : List ℕ) (extent : ℕ) where
         let g : t ≡ take_component im extent most p c s = f ∙ ap (λ (j : ℕ). take_component im extent j p c s) z in
         ap (λ (n : ℕ). on_components im extent most (components_from im n p) s) (sym (pos_suc left h)) ∙ simp (← e, ← g)
 
-    pub components_stop : (t.progress.refusal ≡ 0 → ⊥) → on_components im extent most (components_from im left p) s ≡ t
+    pub components_stop : (refusal_number t.progress.refusal ≡ 0 → ⊥) → on_components im extent most (components_from im left p) s ≡ t
     components_stop n = components_one ∙ then_no _ _ n
 
-    pub components_last : t.progress.refusal ≡ 0 → c.last ≡ true → on_components im extent most (components_from im left p) s ≡ t
+    pub components_last : refusal_number t.progress.refusal ≡ 0 → c.last ≡ true → on_components im extent most (components_from im left p) s ≡ t
     unfolding on_components when◌then◌else◌
     components_last y l = components_one ∙ then_yes _ _ y ∙ rw l
 
-    pub components_next : t.progress.refusal ≡ 0 → c.last ≡ false
+    pub components_next : refusal_number t.progress.refusal ≡ 0 → c.last ≡ false
         → on_components im extent most (components_from im left p) s ≡ on_components im extent most (components_from im (left - 1) c.next.0) t
     unfolding when◌then◌else◌
     components_next y l = components_one ∙ then_yes _ _ y ∙ rw l
@@ -209,34 +211,34 @@ module _ (im : List ℕ) (extent : ℕ) where
         ap (λ (j : ℕ). state v (listed xs j)) g
         ∙ ap (λ (r : Progress). state r (listed xs w.fields)) (f ∙ ap (λ (k : Head). take_line im n before p k w) e)
 
-    pub line_stop : (v.refusal ≡ 0 → ⊥) → seen v xs ≡ line
+    pub line_stop : (refusal_number v.refusal ≡ 0 → ⊥) → seen v xs ≡ line
     unfolding on_line
     line_stop b = sym (rw (← headed) (then_no (seen v xs) _ b))
 
-    line_body : v.refusal ≡ 0 → line ≡ on_body im extent most (on_table im extent most below) p (seen v xs)
+    line_body : refusal_number v.refusal ≡ 0 → line ≡ on_body im extent most (on_table im extent most below) p (seen v xs)
     unfolding on_line
     line_body y = rw (← headed) (then_yes (seen v xs) _ y)
 
     module _
-        (y : v.refusal ≡ 0) (q : State)
+        (y : refusal_number v.refusal ≡ 0) (q : State)
         (g : q ≡ on_components im extent most (components_from im (length im + 1) h.component.0) (seen v xs)) where
       walked : q ≡ on_components im extent most (components_of im p) (seen v xs)
       unfolding components_of
       walked = g ∙ ap (λ (k : Head). on_components im extent most (components_from im (length im + 1) k.component.0) (seen v xs)) e
 
-      pub line_bad : (q.progress.refusal ≡ 0 → ⊥) → q ≡ line
+      pub line_bad : (refusal_number q.progress.refusal ≡ 0 → ⊥) → q ≡ line
       unfolding on_body
       line_bad b = sym (line_body y ∙ rw (← walked) (then_no q _ b))
 
-      line_submenu : q.progress.refusal ≡ 0 → line ≡ on_submenu im extent most (on_table im extent most below) h q
+      line_submenu : refusal_number q.progress.refusal ≡ 0 → line ≡ on_submenu im extent most (on_table im extent most below) h q
       unfolding on_body
       line_submenu a = line_body y ∙ rw (← walked, ← e) (then_yes q _ a)
 
-      pub line_plain : q.progress.refusal ≡ 0 → h.submenu ≡ false → q ≡ line
+      pub line_plain : refusal_number q.progress.refusal ≡ 0 → h.submenu ≡ false → q ≡ line
       unfolding on_submenu when◌then◌else◌
       line_plain a b = sym (line_submenu a ∙ rw b)
 
-      pub line_deep : (k : ℕ) (t r : Progress) (ys : List ℕ) → k ≡ most → q.progress.refusal ≡ 0 → h.submenu ≡ true
+      pub line_deep : (k : ℕ) (t r : Progress) (ys : List ℕ) → k ≡ most → refusal_number q.progress.refusal ≡ 0 → h.submenu ≡ true
           → seen t ys ≡ on_table im extent k below h.table.0 q → r ≡ past_line t q.progress.at → seen r ys ≡ line
       unfolding on_submenu when◌then◌else◌
       line_deep k t r ys z a b u i =
@@ -264,14 +266,14 @@ module _ (im : List ℕ) (extent : ℕ) where
         let g : t ≡ on_line im extent most (on_table im extent most below) n before p s = f ∙ ap (λ (j : ℕ). on_line im extent j (on_table im extent j below) n before p s) z in
         ap (λ (ps : List ℕ). on_lines im extent most (on_table im extent most below) n before ps s) (lines_here n p h l e) ∙ simp (← g)
 
-    pub lines_stop : (t.progress.refusal ≡ 0 → ⊥) → rest ≡ t
+    pub lines_stop : (refusal_number t.progress.refusal ≡ 0 → ⊥) → rest ≡ t
     lines_stop b = lines_one (head_at im p) refl ∙ then_no _ _ b
 
-    pub lines_last : (h : Head) → h ≡ head_at im p → t.progress.refusal ≡ 0 → h.last ≡ true → rest ≡ t
+    pub lines_last : (h : Head) → h ≡ head_at im p → refusal_number t.progress.refusal ≡ 0 → h.last ≡ true → rest ≡ t
     unfolding on_lines when◌then◌else◌
     lines_last h e y a = lines_one h e ∙ then_yes _ _ y ∙ rw a
 
-    pub lines_next : (h : Head) → h ≡ head_at im p → t.progress.refusal ≡ 0 → h.last ≡ false
+    pub lines_next : (h : Head) → h ≡ head_at im p → refusal_number t.progress.refusal ≡ 0 → h.last ≡ false
         → rest ≡ on_lines im extent most (on_table im extent most below) (n + 1) p (lines_from im (100 - (n + 1)) h.next.0) t
     unfolding when◌then◌else◌
     lines_next h e y a = lines_one h e ∙ then_yes _ _ y ∙ rw a
@@ -289,19 +291,19 @@ module _ (im : List ℕ) (extent : ℕ) where
         ap (λ (j : ℕ). state v (listed xs j)) g
         ∙ ap (λ (r : Progress). state r (listed xs w.fields)) (f ∙ ap (λ (k : Title). take_title k w) e)
 
-    stop_by : (d : ℕ) → (v.refusal ≡ 0 → ⊥) → seen v xs ≡ on_table im extent most d at (seen w xs)
+    stop_by : (d : ℕ) → (refusal_number v.refusal ≡ 0 → ⊥) → seen v xs ≡ on_table im extent most d at (seen w xs)
     unfolding on_table
     stop_by zero b = sym (rw (← entered) (then_no (seen v xs) _ b))
     stop_by (suc d) b = sym (rw (← entered) (then_no (seen v xs) _ b))
 
-    pub table_stop : (v.refusal ≡ 0 → ⊥) → seen v xs ≡ on_table im extent most left at (seen w xs)
+    pub table_stop : (refusal_number v.refusal ≡ 0 → ⊥) → seen v xs ≡ on_table im extent most left at (seen w xs)
     table_stop b = stop_by left b
 
-    pub table_deep : (r : Progress) → v.refusal ≡ 0 → left ≡ 0 → r ≡ refused v 8 → seen r xs ≡ on_table im extent most left at (seen w xs)
+    pub table_deep : (r : Progress) → refusal_number v.refusal ≡ 0 → left ≡ 0 → r ≡ refused v fault.Limit → seen r xs ≡ on_table im extent most left at (seen w xs)
     unfolding on_table
     table_deep r y z i = rw (z, i) (sym (rw (← entered) (then_yes (seen v xs) _ y)))
 
-    pub table_lines : v.refusal ≡ 0 → (left ≡ 0 → ⊥)
+    pub table_lines : refusal_number v.refusal ≡ 0 → (left ≡ 0 → ⊥)
         → on_table im extent most left at (seen w xs)
         ≡ on_lines im extent most (on_table im extent most (left - 1)) 0 0 (lines_from im 100 t.line.0) (seen v xs)
     unfolding on_table lines_of

@@ -7,6 +7,8 @@ use native.Mathlib.Omega.{arith}
 use native.Mathlib.Nat.{add-zero, add_assoc}
 use lib.ListN.{length}
 use borrow.Author.Tests.{eqb-true, eqb-false}
+use Rattle.cmf.specs.Refusals.{refusal_number}
+use Rattle.cmf.specs.declared.refusal.Refusal.TheVariants as fault
 use Rattle.laws.specs.Choice.{◌=?◌}
 use Rattle.laws.proofs.Cases.{if_ind, if_true}
 use Rattle.field.specs.declared.record.Field.{Field}
@@ -32,7 +34,7 @@ use Rattle.acceptance.proofs.Answers.{answer, stops}
 module _ (im : List ℕ) (A : Agree im) (extent most : ℕ) where
   -- the walk's refusal is the answer at x
   abbrev Falls : State → Structure → ℕ → List Entry → Type 0
-  Falls s x lines es = (r : ℕ) → 0 < r → answer im extent most x lines es ≡ r → s.progress.refusal ≡ r
+  Falls s x lines es = (r : ℕ) → 0 < r → answer im extent most x lines es ≡ r → refusal_number s.progress.refusal ≡ r
 
   -- ---- components
 
@@ -72,10 +74,10 @@ module _ (im : List ℕ) (A : Agree im) (extent most : ℕ) where
         Falls (submenu t (came_to at lines es)) x (lines + k) (put es gs)
 
     submenu_falls :
-        (p : ℕ) (s : State) (r : ℕ) → (head_at im p).submenu ≡ true → (submenu (head_at im p).table.0 s).progress.refusal ≡ r →
-        (on_submenu im extent most submenu (head_at im p) s).progress.refusal ≡ r
+        (p : ℕ) (s : State) (r : ℕ) → (head_at im p).submenu ≡ true → refusal_number (submenu (head_at im p).table.0 s).progress.refusal ≡ r →
+        refusal_number (on_submenu im extent most submenu (head_at im p) s).progress.refusal ≡ r
     unfolding on_submenu
-    submenu_falls p s r e a = ap (λ (x : State). x.progress.refusal) (if_true _ _ e) ∙ a
+    submenu_falls p s r e a = ap (λ (x : State). refusal_number x.progress.refusal) (if_true _ _ e) ∙ a
 
     head_falls : (n before at p lines : ℕ) (es : List Entry) → Falls (on_line im extent most submenu n before p (came_to at lines es)) (Structure.head n before at p) lines es
     unfolding on_line
@@ -90,7 +92,7 @@ module _ (im : List ℕ) (A : Agree im) (extent most : ℕ) where
         let v = head_reads im A h in
         let i = A.head_is h in
         let q : (head_at im p).component.0 ≡ even_from mid = omega (arith, v.component, i.ends) in
-        ap (λ (s : State). s.progress.refusal)
+        ap (λ (s : State). refusal_number s.progress.refusal)
         (then_is (on_body im extent most submenu p) _ mid (lines + 1) es (head_goes im A extent most n before p mid at lines es h a few room))
         ∙ stops _ _ r pos
         (components_fall c (length im + 1) (head_at im p).component.0 (lines + 1) es q (omega (arith, v.inside, i.ends)) (omega (arith, v.after, i.ends)) t r pos e)
@@ -103,7 +105,7 @@ module _ (im : List ℕ) (A : Agree im) (extent most : ℕ) where
     line_falls go {at = at} {p = p} {x = x} (InLine.submenu {fs = fs} {gs = gs} {k = k} mid end few a h c b y) lines es t l = λ r pos e.
         let v = head_reads im A h in
         let u = takes_split extent most fs {gs = gs} t in
-        ap (λ (s : State). s.progress.refusal) (body_goes im A extent most submenu Sub at lines es h c few a (omega arith) u.0)
+        ap (λ (s : State). refusal_number s.progress.refusal) (body_goes im A extent most submenu Sub at lines es h c few a (omega arith) u.0)
         ∙ submenu_falls p _ r (submenu_marked im A v b)
         (go (head_at im p).table.0 end (lines + 1) (put es fs) x gs k (rw v.table y) u.1 (omega arith) r pos
         (rw (add_assoc lines 1 k, put_put es fs gs) e))
@@ -111,8 +113,8 @@ module _ (im : List ℕ) (A : Agree im) (extent most : ℕ) where
     -- ---- lines
 
     this_falls :
-        (j n before at p : ℕ) (s : State) (r : ℕ) → 0 < r → (on_line im extent most submenu n before p s).progress.refusal ≡ r →
-        (on_lines im extent most submenu n before (lines_from im (suc j) p) s).progress.refusal ≡ r
+        (j n before at p : ℕ) (s : State) (r : ℕ) → 0 < r → refusal_number (on_line im extent most submenu n before p s).progress.refusal ≡ r →
+        refusal_number (on_lines im extent most submenu n before (lines_from im (suc j) p) s).progress.refusal ≡ r
     unfolding lines_from on_lines
     this_falls j n before at p s r h e = stops _ _ r h e
 
@@ -127,7 +129,7 @@ module _ (im : List ℕ) (A : Agree im) (extent most : ℕ) where
     lines_fall goes go {n} {before} {at} {p} {x = z} (InLines.later {k = k} {j = i} {fs = fs} {gs = gs} end f a x b y) (suc j) lines es e few t l = λ r pos q.
         let h = line_reads im A x in
         let u = takes_split extent most fs {gs = gs} t in
-        ap (λ (s : State). s.progress.refusal)
+        ap (λ (s : State). refusal_number s.progress.refusal)
         (ap (λ (ps : List ℕ). on_lines im extent most submenu n before ps (came_to at lines es)) (lines_more im j p (more_marked im A h b) ∙ rw h.next)
         ∙ walk_on im A extent most submenu Sub n before p (lines_from im j (next_line im p)) (came_to at lines es) end (lines + k) (put es fs)
         (line_goes im A extent most submenu Sub goes x at lines es f a u.0 (omega arith)))
@@ -137,27 +139,27 @@ module _ (im : List ℕ) (A : Agree im) (extent most : ℕ) where
   -- ---- tables
 
   -- a title's refusal
-  title_falls : (t : ℕ) (s : State) (r : ℕ) → 0 < r → (title_at im t).refusal ≡ r → (on_title im extent most t s).progress.refusal ≡ r
+  title_falls : (t : ℕ) (s : State) (r : ℕ) → 0 < r → refusal_number (title_at im t).refusal ≡ r → refusal_number (on_title im extent most t s).progress.refusal ≡ r
   unfolding on_title take_title
   title_falls t s r h e =
-      if_ind (λ (w : Progress). w.refusal ≡ r) ((title_at im t).refusal =? 0) (λ q. absurd (omega (arith, eqb-true (title_at im t).refusal 0 q))) (λ _. e)
+      if_ind (λ (w : Progress). refusal_number w.refusal ≡ r) (refusal_number (title_at im t).refusal =? 0) (λ q. absurd (omega (arith, eqb-true (refusal_number (title_at im t).refusal) 0 q))) (λ _. e)
 
   -- R15: a table too deep
   deep_falls : (t at lines : ℕ) (es : List Entry) → Falls (on_table im extent most 0 t (came_to at lines es)) (Structure.title 0 t) lines es
   unfolding on_table
   deep_falls t at lines es r h =
-      if_ind (λ (k : ℕ). k ≡ r → (on_table im extent most 0 t (came_to at lines es)).progress.refusal ≡ r) ((title_at im t).refusal =? 0)
-      (λ q. if_ind (λ (k : ℕ). k ≡ r → (on_table im extent most 0 t (came_to at lines es)).progress.refusal ≡ r) (0 =? 0)
-      (λ _ e. ap (λ (s : State). s.progress.refusal)
-      (then_is (λ s. with s (refused s.progress 8)) _ (title_at im t).end lines es (title_goes im A extent most t at lines es (eqb-true _ 0 q))) ∙ e)
+      if_ind (λ (k : ℕ). k ≡ r → refusal_number (on_table im extent most 0 t (came_to at lines es)).progress.refusal ≡ r) (refusal_number (title_at im t).refusal =? 0)
+      (λ q. if_ind (λ (k : ℕ). k ≡ r → refusal_number (on_table im extent most 0 t (came_to at lines es)).progress.refusal ≡ r) (0 =? 0)
+      (λ _ e. ap (λ (s : State). refusal_number s.progress.refusal)
+      (then_is (λ s. with s (refused s.progress fault.Limit)) _ (title_at im t).end lines es (title_goes im A extent most t at lines es (eqb-true _ 0 q))) ∙ e)
       (λ z _. absurd (eqb-false 0 0 z refl)))
       (λ _ e. stops _ _ r h (title_falls t _ r h e))
 
   over_falls : (left t at lines : ℕ) (es : List Entry) → Falls (on_table im extent most (suc left) t (came_to at lines es)) (Structure.title (suc left) t) lines es
   unfolding on_table
   over_falls left t at lines es r h =
-      if_ind (λ (k : ℕ). k ≡ r → (on_table im extent most (suc left) t (came_to at lines es)).progress.refusal ≡ r) ((title_at im t).refusal =? 0)
-      (λ q. if_ind (λ (k : ℕ). k ≡ r → (on_table im extent most (suc left) t (came_to at lines es)).progress.refusal ≡ r) (suc left =? 0)
+      if_ind (λ (k : ℕ). k ≡ r → refusal_number (on_table im extent most (suc left) t (came_to at lines es)).progress.refusal ≡ r) (refusal_number (title_at im t).refusal =? 0)
+      (λ q. if_ind (λ (k : ℕ). k ≡ r → refusal_number (on_table im extent most (suc left) t (came_to at lines es)).progress.refusal ≡ r) (suc left =? 0)
       (λ z _. absurd (omega (arith, eqb-true (suc left) 0 z))) (λ _ e. absurd (omega arith)))
       (λ _ e. stops _ _ r h (title_falls t _ r h e))
 
@@ -179,7 +181,7 @@ module _ (im : List ℕ) (A : Agree im) (extent most : ℕ) where
       let step : on_table im extent most (suc left) t (came_to at lines es)
       ≡ on_lines im extent most (on_table im extent most left) 0 0 (lines_from im (most_lines_of_table + 1) p) (came_to end lines es) =
       then_is (on_lines im extent most (on_table im extent most left) 0 0 (lines_from im (most_lines_of_table + 1) (title_at im t).line.0)) _ end lines es s ∙ rw q in
-      ap (λ (z : State). z.progress.refusal) step
+      ap (λ (z : State). refusal_number z.progress.refusal) step
       ∙ lines_fall (on_table im extent most left) (Table im left) (InTable im left) (table_goes im A extent most left) go y (most_lines_of_table + 1) lines es refl (omega arith) u l r pos e
 
   -- a structure that the walk comes to in a table gives its answer

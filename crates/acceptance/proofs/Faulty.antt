@@ -6,13 +6,14 @@ use mathlib.Core.List.{List, [], map}
 use native.Mathlib.Omega.{arith}
 use native.Mathlib.Nat.{zero-add}
 use borrow.Author.Tests.{eqb-true, eqb-false}
+use Rattle.cmf.specs.Refusals.{refusal_number}
 use Rattle.laws.specs.Choice.{◌=?◌}
 use Rattle.laws.proofs.Cases.{if_ind, by_test, if_eq, if_ne}
 use Rattle.cmf.specs.Limits.{deepest_table, most_fields, prolog_bytes}
 use Rattle.cmf.specs.Grammar.{Prolog, WellFormed}
 use Rattle.cmf.proofs.Agreement.{Agree}
 use Rattle.cmf.proofs.Agreeing.{agree}
-use Rattle.acceptance.specs.Check.{State, entry_of, walked, prolog_code, checked, refusal_of}
+use Rattle.acceptance.specs.Check.{State, entry_of, walked, prolog_refusal, checked, refusal_of}
 use Rattle.acceptance.specs.Faults.{Refused}
 use Rattle.acceptance.proofs.Takes.{fits_takes, takes_fits, beside_none}
 use Rattle.acceptance.proofs.Accepted.{prolog_is, prolog_read}
@@ -28,7 +29,7 @@ module _ (im : List ℕ) (extent : ℕ) where
   A = agree im
 
   -- a walk that is refused with a number: the definition says that number
-  walk_refused : (k : ℕ) → 0 < k → Prolog im → (walked im extent).progress.refusal ≡ k → Refused im extent k
+  walk_refused : (k : ℕ) → 0 < k → Prolog im → refusal_number (walked im extent).progress.refusal ≡ k → Refused im extent k
   unfolding walked
   walk_refused k pos p z =
       let x = table_finds im A extent most_fields deepest_table prolog_bytes 0 0 [] (omega arith) k pos z in
@@ -42,7 +43,7 @@ module _ (im : List ℕ) (extent : ℕ) where
   refused_is : (k : ℕ) → 0 < k → refusal_of im extent ≡ k → Refused im extent k
   unfolding refusal_of checked
   refused_is k pos =
-      if_ind (λ (s : State). s.progress.refusal ≡ k → Refused im extent k) (prolog_code im =? 0)
+      if_ind (λ (s : State). refusal_number s.progress.refusal ≡ k → Refused im extent k) (refusal_number (prolog_refusal im) =? 0)
       (λ e z. walk_refused k pos (prolog_read im (eqb-true _ 0 e)) z)
       (λ e z. Refused.prolog (rw z at (judged_lowest (prolog_judged im) (omega arith))))
 
@@ -51,12 +52,12 @@ module _ (im : List ℕ) (extent : ℕ) where
   unfolding refusal_of checked walked
   is_refused_lem (Refused.prolog l) =
       let j = lowest_judged (prolog_judged im) l in
-      (ap (λ (s : State). s.progress.refusal) (if_ne (prolog_code im) 0 _ _ (λ z. omega (arith, j.1))) ∙ j.0, omega (arith, j.0, j.1))
+      (ap (λ (s : State). refusal_number s.progress.refusal) (if_ne (refusal_number (prolog_refusal im)) 0 _ _ (λ z. omega (arith, j.1))) ∙ j.0, omega (arith, j.0, j.1))
   is_refused_lem {k} (Refused.structure x fs lines p c kept l) =
       let j = lowest_judged (judged im extent lines fs x (sits im deepest_table prolog_bytes x fs lines c)) l in
       let t = fits_takes extent most_fields [] {fs = fs} (omega (arith, kept.few_fields)) kept.inside (beside_none fs) kept.apart in
       let pos : 0 < k = omega (arith, j.0, j.1) in (
-        ap (λ (s : State). s.progress.refusal) (if_eq (prolog_code im) 0 _ _ (prolog_is im p))
+        ap (λ (s : State). refusal_number s.progress.refusal) (if_eq (refusal_number (prolog_refusal im)) 0 _ _ (prolog_is im p))
             ∙ table_falls im A extent most_fields deepest_table prolog_bytes 0 0 [] x fs lines c t (omega (arith, kept.few_lines)) k pos (rw (zero-add lines) j.0),
         pos,
       )

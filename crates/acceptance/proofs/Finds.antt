@@ -6,6 +6,8 @@ use mathlib.Core.List.{List, [], ◌++◌, append-nil}
 use native.Mathlib.Omega.{arith}
 use native.Mathlib.Nat.{add-zero, add_assoc}
 use lib.ListN.{length}
+use Rattle.cmf.specs.Refusals.{refusal_number}
+use Rattle.cmf.specs.declared.refusal.Refusal.TheVariants as fault
 use Rattle.laws.specs.Choice.{when◌then◌else◌, ◌=?◌}
 use Rattle.laws.proofs.Cases.{by_test, if_ind, if_true, if_false, if_ne, if_eq}
 use Rattle.field.specs.declared.record.Field.{Field}
@@ -79,7 +81,7 @@ module _ (im : List ℕ) (A : Agree im) (extent most : ℕ) where
   abbrev Finds : ℕ → Type 0
   Finds k =
       (c at lines : ℕ) (es : List Entry) → c ≡ even_from at → at ≤ length im → length im + 1 < c + k → (r : ℕ) → 0 < r →
-      (on_components im extent most (components_from im k c) (came_to at lines es)).progress.refusal ≡ r → PartsFault at lines es r
+      refusal_number (on_components im extent most (components_from im k c) (came_to at lines es)).progress.refusal ≡ r → PartsFault at lines es r
 
   one_finds : (k : ℕ) → Finds k → Finds (suc k)
   unfolding components_from on_components
@@ -91,7 +93,7 @@ module _ (im : List ℕ) (A : Agree im) (extent most : ℕ) where
       others : State
       others = on_components im extent most (when (component_at im c).last then [] else components_from im k (component_at im c).next.0) one
 
-      on : fine one ≡ true → others.progress.refusal ≡ r → PartsFault at lines es r
+      on : fine one ≡ true → refusal_number others.progress.refusal ≡ r → PartsFault at lines es r
       on b q = by_test (component_at im c).last last more
         where
           w : Taken im A extent most c at es
@@ -148,24 +150,24 @@ module _ (im : List ℕ) (A : Agree im) (extent most : ℕ) where
     -- a submenu that is refused has a structure at fault
     abbrev pub SubFinds : Type 0
     SubFinds =
-        (t at lines : ℕ) (es : List Entry) → lines ≤ most_lines → (r : ℕ) → 0 < r → (submenu t (came_to at lines es)).progress.refusal ≡ r →
+        (t at lines : ℕ) (es : List Entry) → lines ≤ most_lines → (r : ℕ) → 0 < r → refusal_number (submenu t (came_to at lines es)).progress.refusal ≡ r →
         Fault (Below t) lines es r
 
     plain_none :
         {X : Type 0} (p at lines : ℕ) (es : List Entry) (r : ℕ) → 0 < r → (head_at im p).submenu ≡ false →
-        (on_submenu im extent most submenu (head_at im p) (came_to at lines es)).progress.refusal ≡ r → X
+        refusal_number (on_submenu im extent most submenu (head_at im p) (came_to at lines es)).progress.refusal ≡ r → X
     unfolding on_submenu
-    plain_none p at lines es r pos e f = absurd (omega (arith, ap (λ (s : State). s.progress.refusal) (sym (if_false _ (came_to at lines es) e)) ∙ f))
+    plain_none p at lines es r pos e f = absurd (omega (arith, ap (λ (s : State). refusal_number s.progress.refusal) (sym (if_false _ (came_to at lines es) e)) ∙ f))
 
     submenu_finds :
-        (p : ℕ) (s : State) (r : ℕ) → (head_at im p).submenu ≡ true → (on_submenu im extent most submenu (head_at im p) s).progress.refusal ≡ r →
-        (submenu (head_at im p).table.0 s).progress.refusal ≡ r
+        (p : ℕ) (s : State) (r : ℕ) → (head_at im p).submenu ≡ true → refusal_number (on_submenu im extent most submenu (head_at im p) s).progress.refusal ≡ r →
+        refusal_number (submenu (head_at im p).table.0 s).progress.refusal ≡ r
     unfolding on_submenu
-    submenu_finds p s r e f = sym (ap (λ (x : State). x.progress.refusal) (if_true _ _ e)) ∙ f
+    submenu_finds p s r e f = sym (ap (λ (x : State). refusal_number x.progress.refusal) (if_true _ _ e)) ∙ f
 
     line_finds :
         SubFinds → (n before p at lines : ℕ) (es : List Entry) → lines ≤ most_lines → (r : ℕ) → 0 < r →
-        (on_line im extent most submenu n before p (came_to at lines es)).progress.refusal ≡ r → Fault (InLine im Below n before at p) lines es r
+        refusal_number (on_line im extent most submenu n before p (came_to at lines es)).progress.refusal ≡ r → Fault (InLine im Below n before at p) lines es r
     unfolding on_line on_body components_of
     line_finds finds n before p at lines es few r pos f = go (turn S (on_body im extent most submenu p S) r f)
       where
@@ -178,7 +180,7 @@ module _ (im : List ℕ) (A : Agree im) (extent most : ℕ) where
         C : State
         C = on_components im extent most (components_of im p) (came_to mid (lines + 1) es)
 
-        on : fine S ≡ true → (on_body im extent most submenu p S).progress.refusal ≡ r → Fault (InLine im Below n before at p) lines es r
+        on : fine S ≡ true → refusal_number (on_body im extent most submenu p S).progress.refusal ≡ r → Fault (InLine im Below n before at p) lines es r
         on b q = next (turn C (on_submenu im extent most submenu (head_at im p) C) r (rw step at q))
           where
             h : Headed im A extent most n before p at lines
@@ -193,7 +195,7 @@ module _ (im : List ℕ) (A : Agree im) (extent most : ℕ) where
             enough : length im + 1 < (head_at im p).component.0 + (length im + 1)
             enough = omega (arith, v.component, v.after)
 
-            part : C.progress.refusal ≡ r → Fault (InLine im Below n before at p) lines es r
+            part : refusal_number C.progress.refusal ≡ r → Fault (InLine im Below n before at p) lines es r
             part e =
                 let x = components_find (length im + 1) (head_at im p).component.0 mid (lines + 1) es v.component v.inside enough r pos e in
                 record {
@@ -206,7 +208,7 @@ module _ (im : List ℕ) (A : Agree im) (extent most : ℕ) where
                   answers = x.answers;
                 }
 
-            below : fine C ≡ true → (on_submenu im extent most submenu (head_at im p) C).progress.refusal ≡ r → Fault (InLine im Below n before at p) lines es r
+            below : fine C ≡ true → refusal_number (on_submenu im extent most submenu (head_at im p) C).progress.refusal ≡ r → Fault (InLine im Below n before at p) lines es r
             below g e = by_test (head_at im p).submenu deep plain
               where
                 c : Parts im A extent most mid es
@@ -238,7 +240,7 @@ module _ (im : List ℕ) (A : Agree im) (extent most : ℕ) where
     abbrev LinesFind : ℕ → Type 0
     LinesFind j =
         (n before p at lines : ℕ) (es : List Entry) → n + j ≡ most_lines_of_table + 1 → n ≤ most_lines_of_table → lines ≤ most_lines → (r : ℕ) → 0 < r →
-        (on_lines im extent most submenu n before (lines_from im j p) (came_to at lines es)).progress.refusal ≡ r → Fault (InLines im Sub Below n before at p) lines es r
+        refusal_number (on_lines im extent most submenu n before (lines_from im j p) (came_to at lines es)).progress.refusal ≡ r → Fault (InLines im Sub Below n before at p) lines es r
 
     one_line : SubGoes im A extent most submenu Sub → SubReads im A extent most submenu Sub → SubFinds → (j : ℕ) → LinesFind j → LinesFind (suc j)
     unfolding lines_from on_lines
@@ -250,7 +252,7 @@ module _ (im : List ℕ) (A : Agree im) (extent most : ℕ) where
         others : State
         others = on_lines im extent most submenu (n + 1) p (when (head_at im p).last then [] else lines_from im j (head_at im p).next.0) one
 
-        this : one.progress.refusal ≡ r → Fault (InLines im Sub Below n before at p) lines es r
+        this : refusal_number one.progress.refusal ≡ r → Fault (InLines im Sub Below n before at p) lines es r
         this q =
             let x = line_finds finds n before p at lines es few r pos q in
             record {
@@ -263,7 +265,7 @@ module _ (im : List ℕ) (A : Agree im) (extent most : ℕ) where
               answers = x.answers;
             }
 
-        on : fine one ≡ true → others.progress.refusal ≡ r → Fault (InLines im Sub Below n before at p) lines es r
+        on : fine one ≡ true → refusal_number others.progress.refusal ≡ r → Fault (InLines im Sub Below n before at p) lines es r
         on b q = by_test (head_at im p).last last more
           where
             x : LineRead im A extent most submenu Sub n before p at lines es
@@ -296,28 +298,28 @@ module _ (im : List ℕ) (A : Agree im) (extent most : ℕ) where
   -- ---- tables
 
   -- a title that is refused is so by its own number
-  title_finds : (t : ℕ) (s : State) (r : ℕ) → 0 < r → (on_title im extent most t s).progress.refusal ≡ r → (title_at im t).refusal ≡ r
+  title_finds : (t : ℕ) (s : State) (r : ℕ) → 0 < r → refusal_number (on_title im extent most t s).progress.refusal ≡ r → refusal_number (title_at im t).refusal ≡ r
   unfolding on_title take_title
   title_finds t s r pos =
-      if_ind (λ (w : Progress). w.refusal ≡ r → (title_at im t).refusal ≡ r) ((title_at im t).refusal =? 0) (λ _ e. absurd (omega arith)) (λ _ e. e)
+      if_ind (λ (w : Progress). refusal_number w.refusal ≡ r → refusal_number (title_at im t).refusal ≡ r) (refusal_number (title_at im t).refusal =? 0) (λ _ e. absurd (omega arith)) (λ _ e. e)
 
-  title_answers : (left t r : ℕ) → 0 < r → (title_at im t).refusal ≡ r → title_answer im left t ≡ r
-  title_answers left t r pos e = if_ne (title_at im t).refusal 0 _ _ (λ z. omega arith) ∙ e
+  title_answers : (left t r : ℕ) → 0 < r → refusal_number (title_at im t).refusal ≡ r → title_answer im left t ≡ r
+  title_answers left t r pos e = if_ne (refusal_number (title_at im t).refusal) 0 _ _ (λ z. omega arith) ∙ e
 
-  deep_finds : (t at lines : ℕ) (es : List Entry) → lines ≤ most_lines → (r : ℕ) → 0 < r → (on_table im extent most 0 t (came_to at lines es)).progress.refusal ≡ r → Fault (TitleOnly t) lines es r
+  deep_finds : (t at lines : ℕ) (es : List Entry) → lines ≤ most_lines → (r : ℕ) → 0 < r → refusal_number (on_table im extent most 0 t (came_to at lines es)).progress.refusal ≡ r → Fault (TitleOnly t) lines es r
   unfolding on_table
   deep_finds t at lines es few r pos f = at_first (Structure.title 0 t) TitleOnly.first lines es r few (go (turn S _ r f))
     where
       S : State
       S = on_title im extent most t (came_to at lines es)
 
-      go : Turn S (with S (refused S.progress 8)) r → title_answer im 0 t ≡ r
+      go : Turn S (with S (refused S.progress fault.Limit)) r → title_answer im 0 t ≡ r
       go (Turn.stopped q) = title_answers 0 t r pos (title_finds t _ r pos q)
-      go (Turn.went b q) = if_eq (title_at im t).refusal 0 _ _ (title_read im A extent most t (came_to at lines es) b) ∙ if_eq 0 0 _ _ refl ∙ q
+      go (Turn.went b q) = if_eq (refusal_number (title_at im t).refusal) 0 _ _ (title_read im A extent most t (came_to at lines es) b) ∙ if_eq 0 0 _ _ refl ∙ q
 
   over_finds :
       (left : ℕ) → SubFinds (on_table im extent most left) (Table im left) (InTable im left) → (t at lines : ℕ) (es : List Entry) → lines ≤ most_lines → (r : ℕ) → 0 < r →
-      (on_table im extent most (suc left) t (came_to at lines es)).progress.refusal ≡ r → Fault (InTableOver im (Table im left) (InTable im left) (suc left) t) lines es r
+      refusal_number (on_table im extent most (suc left) t (came_to at lines es)).progress.refusal ≡ r → Fault (InTableOver im (Table im left) (InTable im left) (suc left) t) lines es r
   unfolding on_table lines_of
   over_finds left finds t at lines es few r pos f = go (turn S _ r f)
     where
@@ -330,7 +332,7 @@ module _ (im : List ℕ) (A : Agree im) (extent most : ℕ) where
       L : State → State
       L = on_lines im extent most (on_table im extent most left) 0 0 (lines_of im t)
 
-      on : fine S ≡ true → (L S).progress.refusal ≡ r → Fault (InTableOver im (Table im left) (InTable im left) (suc left) t) lines es r
+      on : fine S ≡ true → refusal_number (L S).progress.refusal ≡ r → Fault (InTableOver im (Table im left) (InTable im left) (suc left) t) lines es r
       on b q =
           let z = title_read im A extent most t (came_to at lines es) b in
           let v = A.title_reads t z in

@@ -5,6 +5,7 @@ use mathlib.Core.Bool.{Bool, true, false}
 use mathlib.Core.List.{List}
 use native.Mathlib.Omega.{arith}
 use borrow.Author.Tests.{ltb-true, ltb-false, leb-true, leb-false, eqb-true, eqb-false}
+use Rattle.cmf.specs.Refusals.{refusal_number}
 use Rattle.laws.specs.Choice.{when◌then◌else◌, ◌=?◌, ◌<?◌, ◌≤?◌}
 use Rattle.laws.specs.Bytes.{byte_at, word_at}
 use Rattle.laws.proofs.Cases.{if_ind, by_test, and_i, and_l, and_r}
@@ -70,23 +71,23 @@ even_place e = record { agrees = omega arith; after = omega arith; first = omega
 
 -- the check's answer at a title: 8 where it is whole and no level is left
 abbrev pub title_answer : List ℕ → ℕ → ℕ → ℕ
-title_answer im left t = when (title_at im t).refusal =? 0 then (when left =? 0 then 8 else 0) else (title_at im t).refusal
+title_answer im left t = when refusal_number (title_at im t).refusal =? 0 then (when left =? 0 then 8 else 0) else refusal_number (title_at im t).refusal
 
 module _ (im : List ℕ) (left t : ℕ) where
   title_least : (k : ℕ) → (6 < k → Cut im 1 t → ⊥) → (8 < k → left ≡ 0 → ⊥) → (j : ℕ) → TitleFault im left t j → k ≤ j
   title_least k a b j (TitleFault.cut c) = not_below k 6 (λ l. a l c)
   title_least k a b j (TitleFault.deep z) = not_below k 8 (λ l. b l z)
 
-  title_by_lem : (x : Title) → TitleView im t x → Judged (TitleFault im left t) (when x.refusal =? 0 then (when left =? 0 then 8 else 0) else x.refusal)
+  title_by_lem : (x : Title) → TitleView im t x → Judged (TitleFault im left t) (when refusal_number x.refusal =? 0 then (when left =? 0 then 8 else 0) else refusal_number x.refusal)
   title_by_lem x (TitleView.cut c e) =
-      if_ind (Judged (TitleFault im left t)) (x.refusal =? 0) (λ q. let z = eqb-true x.refusal 0 q in absurd (omega arith))
+      if_ind (Judged (TitleFault im left t)) (refusal_number x.refusal =? 0) (λ q. let z = eqb-true (refusal_number x.refusal) 0 q in absurd (omega arith))
       (λ _. at_fault 6 e (omega arith) (TitleFault.cut c) (title_least 6 (λ l. absurd (omega arith)) (λ l. absurd (omega arith))))
   title_by_lem x (TitleView.whole u e) =
-      if_ind (Judged (TitleFault im left t)) (x.refusal =? 0)
+      if_ind (Judged (TitleFault im left t)) (refusal_number x.refusal =? 0)
       (λ _. if_ind (Judged (TitleFault im left t)) (left =? 0)
       (λ z. at_fault 8 refl (omega arith) (TitleFault.deep (eqb-true left 0 z)) (title_least 8 (λ _. u) (λ l. absurd (omega arith))))
       (λ z. no_fault refl (λ j f. let h = title_least (j + 1) (λ _. u) (λ _. eqb-false left 0 z) j f in omega arith)))
-      (λ q. absurd (eqb-false x.refusal 0 q e))
+      (λ q. absurd (eqb-false (refusal_number x.refusal) 0 q e))
 
   pub title_judged : Judged (TitleFault im left t) (title_answer im left t)
   title_judged = title_by_lem (title_at im t) (title_view im t)
@@ -181,7 +182,7 @@ module _ (im : List ℕ) (lines n before at p : ℕ) where
         (λ e. let q = eqb-false at p e in HeadFault.padding (omega arith) (λ y. clash (padded_is im at p (λ _. y)) z))
 
     -- row 8, then row 9
-    counted : (HeadCut im p → ⊥) → Right → (es : List Entry) → Judged F (count_line n h (came_to at lines es).progress).refusal
+    counted : (HeadCut im p → ⊥) → Right → (es : List Entry) → Judged F (refusal_number (count_line n h (came_to at lines es).progress).refusal)
     unfolding count_line
     counted u r es =
         if_ind J (most_lines_of_table ≤? n) (λ q. at_fault 8 refl (omega arith) (HeadFault.hundredth (leb-true most_lines_of_table n q)) eight)
@@ -194,7 +195,7 @@ module _ (im : List ℕ) (lines n before at p : ℕ) where
         at_fault 9 refl (omega arith) (HeadFault.password w.0 w.1) (head_least 9 (λ _. u) (λ _. r) (λ _. few) (λ l. absurd (omega arith))))))
       where
         J : Progress → Type 0
-        J w = Judged F w.refusal
+        J w = Judged F (refusal_number w.refusal)
 
         eight : (j : ℕ) → F j → 8 ≤ j
         eight = head_least 8 (λ _. u) (λ _. r) (λ l. absurd (omega arith)) (λ l. absurd (omega arith))
@@ -212,23 +213,23 @@ module _ (im : List ℕ) (lines n before at p : ℕ) where
   head_seven : (HeadCut im p → ⊥) → (j : ℕ) → F j → 7 ≤ j
   head_seven u = head_least 7 (λ _. u) (λ l. absurd (omega arith)) (λ l. absurd (omega arith)) (λ l. absurd (omega arith))
 
-  head_by_lem : {x : Head} (es : List Entry) → HeadView im p x → Judged F (take_line im n before p x (came_to at lines es).progress).refusal
+  head_by_lem : {x : Head} (es : List Entry) → HeadView im p x → Judged F (refusal_number (take_line im n before p x (came_to at lines es).progress).refusal)
   unfolding take_line
   head_by_lem es (HeadView.cut c) =
-      if_ind (λ (w : Progress). Judged F w.refusal) (6 =? 0) (λ q. let z = eqb-true 6 0 q in absurd (omega arith))
+      if_ind (λ (w : Progress). Judged F (refusal_number w.refusal)) (6 =? 0) (λ q. let z = eqb-true 6 0 q in absurd (omega arith))
       (λ _. at_fault 6 refl (omega arith) (HeadFault.cut c)
       (head_least 6 (λ l. absurd (omega arith)) (λ l. absurd (omega arith)) (λ l. absurd (omega arith)) (λ l. absurd (omega arith))))
   head_by_lem es (HeadView.wrong u x) =
-      if_ind (λ (w : Progress). Judged F w.refusal) (7 =? 0) (λ q. let z = eqb-true 7 0 q in absurd (omega arith))
+      if_ind (λ (w : Progress). Judged F (refusal_number w.refusal)) (7 =? 0) (λ q. let z = eqb-true 7 0 q in absurd (omega arith))
       (λ _. at_fault 7 refl (omega arith) (HeadFault.wrong x) (head_seven u))
   head_by_lem es (HeadView.whole u r end) =
-      if_ind (λ (w : Progress). Judged F w.refusal) (0 =? 0)
-      (λ _. if_ind (λ (w : Progress). Judged F w.refusal) (line_placed im n before p (came_to at lines es).progress)
+      if_ind (λ (w : Progress). Judged F (refusal_number w.refusal)) (0 =? 0)
+      (λ _. if_ind (λ (w : Progress). Judged F (refusal_number w.refusal)) (line_placed im n before p (came_to at lines es).progress)
       (λ e. counted end u (right_by end r es e) es)
       (λ e. at_fault 7 refl (omega arith) (located end u r es e) (head_seven u)))
       (λ q. absurd (eqb-false 0 0 q refl))
 
   -- the check's answer at a line's head
-  pub head_judged : (extent most : ℕ) (es : List Entry) → Judged F (on_head im extent most n before p (came_to at lines es)).progress.refusal
+  pub head_judged : (extent most : ℕ) (es : List Entry) → Judged F (refusal_number (on_head im extent most n before p (came_to at lines es)).progress.refusal)
   unfolding on_head
   head_judged extent most es = head_by_lem es (head_view im p)

@@ -6,6 +6,7 @@ use mathlib.Core.Bool.{true, false}
 use mathlib.Core.List.{List, ◌++◌}
 use native.Mathlib.Omega.{arith}
 use lib.ListN.{length}
+use Rattle.cmf.specs.Refusals.{refusal_number}
 use Rattle.laws.proofs.Cases.{by_test, if_eq, if_true, if_false}
 use Rattle.field.specs.declared.record.Field.{Field}
 use Rattle.cmf.specs.Limits.{most_lines_of_table, most_lines}
@@ -117,7 +118,7 @@ module _ (im : List ℕ) (A : Agree im) (extent most : ℕ) where
       pub end : ℕ
       pub count : ℕ
       pub fields : List Field
-      pub refusal : (head_at im p).refusal ≡ 0
+      pub refusal : refusal_number (head_at im p).refusal ≡ 0
       pub few : n < most_lines_of_table
       pub aligned : Aligned im 1 at p
       pub line : Line im Sub n before p end fields count

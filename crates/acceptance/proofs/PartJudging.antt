@@ -6,6 +6,9 @@ use mathlib.Core.List.{List, [], ◌∷◌, map}
 use native.Mathlib.Omega.{arith}
 use lib.ListN.{length, length-map}
 use borrow.Author.Tests.{leb-true, leb-false, eqb-true, eqb-false}
+use Rattle.std.specs.Prelude.{Option}
+use Rattle.cmf.specs.Refusals.{refusal_number}
+use Rattle.cmf.specs.declared.refusal.Refusal.{Refusal}
 use Rattle.laws.specs.Choice.{◌=?◌, ◌≤?◌}
 use Rattle.laws.specs.Bytes.{byte_at}
 use Rattle.laws.proofs.Cases.{if_ind, by_test, and_l, and_r, and_true}
@@ -69,15 +72,15 @@ shares_none f e (Shares.later {g = g} s) = shares_none f (and_r (apart (entry_of
 -- ---- settings
 
 module _ {f : Field} where
-  not_six : {r : ℕ} → Settings f r → r ≡ 6 → ⊥
+  not_six : {r : Option Refusal} → Settings f r → refusal_number r ≡ 6 → ⊥
   not_six (Settings.good g) e = omega arith
   not_six (Settings.bad n) e = omega arith
 
-  is_good : {r : ℕ} → Settings f r → r ≡ 0 → GoodSettings f
+  is_good : {r : Option Refusal} → Settings f r → refusal_number r ≡ 0 → GoodSettings f
   is_good (Settings.good g) e = g
   is_good (Settings.bad n) e = absurd (omega arith)
 
-  is_bad : {r : ℕ} → Settings f r → (r ≡ 0 → ⊥) → (r ≡ 9) × (GoodSettings f → ⊥)
+  is_bad : {r : Option Refusal} → Settings f r → (refusal_number r ≡ 0 → ⊥) → (refusal_number r ≡ 9) × (GoodSettings f → ⊥)
   is_bad (Settings.good g) n = absurd (n refl)
   is_bad (Settings.bad b) n = (refl, b)
 
@@ -131,7 +134,7 @@ module _ (im : List ℕ) (extent : ℕ) (fs : List Field) (at p : ℕ) where
     s = came_to at lines (map entry_of fs)
 
     abbrev J : State → Type 0
-    J x = Judged F x.progress.refusal
+    J x = Judged F (refusal_number x.progress.refusal)
 
     -- a field that is all there: rows 8 to 11
     field_by_lem :
@@ -143,7 +146,7 @@ module _ (im : List ℕ) (extent : ℕ) (fs : List Field) (at p : ℕ) where
         (λ m. at_fault 8 refl (omega arith) (ComponentFault.many (is form) (omega (arith, leb-true most_fields (length (map entry_of fs)) m, n)))
         (part_least 8 (λ _. u) (λ _. r) (λ l. absurd (omega arith)) (λ l. absurd (omega arith)) (λ l. absurd (omega arith)) (λ l. absurd (omega arith))))
         (λ m. let few : length fs < most_fields = omega (arith, leb-false most_fields (length (map entry_of fs)) m, n) in
-        if_ind J (x.refusal =? 0)
+        if_ind J (refusal_number x.refusal =? 0)
         (λ z. let good : (g : Field) → FieldIs im p g → GoodSettings g = λ g h. rw (same h) (is_good st (eqb-true _ 0 z)) in
         if_ind J (in_sheet extent (entry_of x.field))
         (λ i. let inside : (g : Field) → FieldIs im p g → InSheet extent g = λ g h. rw (same h) (sheet_reads extent f (rw e at i)) in
@@ -154,7 +157,7 @@ module _ (im : List ℕ) (extent : ℕ) (fs : List Field) (at p : ℕ) where
         (part_least 11 (λ _. u) (λ _. r) (λ _ _ _. few) (λ _. good) (λ _. inside) (λ l. absurd (omega arith)))))
         (λ i. at_fault 10 refl (omega arith) (beyond_sheet form (rw e at i))
         (part_least 10 (λ _. u) (λ _. r) (λ _ _ _. few) (λ _. good) (λ l. absurd (omega arith)) (λ l. absurd (omega arith)))))
-        (λ z. let w = is_bad st (eqb-false x.refusal 0 z) in
+        (λ z. let w = is_bad st (eqb-false (refusal_number x.refusal) 0 z) in
         at_fault 9 w.0 (omega arith) (ComponentFault.settings (is form) w.1)
         (part_least 9 (λ _. u) (λ _. r) (λ _ _ _. few) (λ l. absurd (omega arith)) (λ l. absurd (omega arith)) (λ l. absurd (omega arith)))))
       where
@@ -167,31 +170,31 @@ module _ (im : List ℕ) (extent : ℕ) (fs : List Field) (at p : ℕ) where
     part_by : {x : Component} → FirstOfParity 0 at p → View im p x → J (take_component im extent most_fields p x s)
     unfolding take_component
     part_by {x} o (View.cut c e) =
-        if_ind J (x.refusal =? 6)
+        if_ind J (refusal_number x.refusal =? 6)
         (λ _. at_fault 6 refl (omega arith) (ComponentFault.cut c)
         (part_least 6 (λ l. absurd (omega arith)) (λ l. absurd (omega arith)) (λ l. absurd (omega arith)) (λ l. absurd (omega arith)) (λ l. absurd (omega arith)) (λ l. absurd (omega arith))))
-        (λ q. absurd (eqb-false x.refusal 6 q e))
+        (λ q. absurd (eqb-false (refusal_number x.refusal) 6 q e))
     part_by {x} o (View.wrong u w e h) =
-        if_ind J (x.refusal =? 6) (λ q. absurd (omega (arith, eqb-true x.refusal 6 q)))
+        if_ind J (refusal_number x.refusal =? 6) (λ q. absurd (omega (arith, eqb-true (refusal_number x.refusal) 6 q)))
         (λ _. if_ind J (padded im at p)
         (λ _. if_ind J x.fielded (λ y. clash y h)
-        (λ _. if_ind J (x.refusal =? 0) (λ q. absurd (omega (arith, eqb-true x.refusal 0 q)))
+        (λ _. if_ind J (refusal_number x.refusal =? 0) (λ q. absurd (omega (arith, eqb-true (refusal_number x.refusal) 0 q)))
         (λ _. at_fault 7 e (omega arith) (ComponentFault.wrong w) (seven u))))
         (λ z. at_fault 7 refl (omega arith) (ComponentFault.wrong w) (seven u)))
     part_by {x} o (View.plain u r form e h) =
-        if_ind J (x.refusal =? 6) (λ q. absurd (omega (arith, eqb-true x.refusal 6 q)))
+        if_ind J (refusal_number x.refusal =? 6) (λ q. absurd (omega (arith, eqb-true (refusal_number x.refusal) 6 q)))
         (λ _. if_ind J (padded im at p)
         (λ z. if_ind J x.fielded (λ y. clash y h)
-        (λ _. if_ind J (x.refusal =? 0)
+        (λ _. if_ind J (refusal_number x.refusal =? 0)
         (λ _. no_fault refl (λ j q. let l = part_least (j + 1) (λ _. u) (λ _. right_by r z) (λ _ f y. absurd (no_field im p form y.form))
         (λ _ f y. absurd (no_field im p form y.form)) (λ _ f y. absurd (no_field im p form y.form)) (λ _ f y. absurd (no_field im p form y.form)) j q in omega arith))
-        (λ q. absurd (eqb-false x.refusal 0 q e))))
+        (λ q. absurd (eqb-false (refusal_number x.refusal) 0 q e))))
         (λ z. at_fault 7 refl (omega arith) (not_padded o z) (seven u)))
       where
         right_by : (ComponentWrong im p → ⊥) → padded im at p ≡ true → Right
         right_by r z = record { right = r; zeroed = λ l. padded_reads im at p z (λ e. omega arith) }
     part_by {x} o (View.field u r form f h st) =
-        if_ind J (x.refusal =? 6) (λ q. absurd (not_six st (eqb-true x.refusal 6 q)))
+        if_ind J (refusal_number x.refusal =? 6) (λ q. absurd (not_six st (eqb-true (refusal_number x.refusal) 6 q)))
         (λ _. if_ind J (padded im at p)
         (λ z. if_ind J x.fielded
         (λ _. field_by_lem x u (record { right = r; zeroed = λ l. padded_reads im at p z (λ e. omega arith) }) form f st)

@@ -9,8 +9,11 @@ use borrow.Author.Tests.{ltb-true, ltb-false, eqb-true, eqb-false}
 use Rattle.laws.specs.Choice.{◌and◌, ◌=?◌, ◌<?◌}
 use Rattle.laws.specs.Bytes.{byte_at}
 use Rattle.laws.proofs.Cases.{if_ind, by_test, and_i, and_l, and_r}
+use Rattle.std.specs.Prelude.{Option}
+use Rattle.cmf.specs.Refusals.{refusal_number}
+use Rattle.cmf.specs.declared.refusal.Refusal.{Refusal}
 use Rattle.cmf.specs.Limits.{longest_image, prolog_bytes}
-use Rattle.acceptance.specs.Check.{prolog_code}
+use Rattle.acceptance.specs.Check.{prolog_refusal}
 use Rattle.acceptance.specs.Faults.{PrologFault}
 use Rattle.acceptance.proofs.CameTo.{clash}
 use Rattle.acceptance.proofs.Judging.{Judged, at_fault, no_fault, not_below}
@@ -73,23 +76,26 @@ module _ (im : List ℕ) where
   two = prolog_least 2 (λ l. absurd (omega arith)) (λ l. absurd (omega arith)) (λ l. absurd (omega arith)) (λ l. absurd (omega arith))
 
   -- the check's answer at the prolog
-  pub prolog_judged : Judged F (prolog_code im)
-  unfolding prolog_code
+  pub prolog_judged : Judged F (refusal_number (prolog_refusal im))
+  unfolding prolog_refusal
   prolog_judged =
-      if_ind (Judged F) (length im <? prolog_bytes) (λ a. at_fault 2 refl (omega arith) (PrologFault.short (ltb-true (length im) prolog_bytes a)) two)
-      (λ a. if_ind (Judged F) (longest_image <? length im) (λ b. at_fault 2 refl (omega arith) (PrologFault.long (ltb-true longest_image (length im) b)) two)
+      if_ind J (length im <? prolog_bytes) (λ a. at_fault 2 refl (omega arith) (PrologFault.short (ltb-true (length im) prolog_bytes a)) two)
+      (λ a. if_ind J (longest_image <? length im) (λ b. at_fault 2 refl (omega arith) (PrologFault.long (ltb-true longest_image (length im) b)) two)
       (λ b. let sized : Sized = record { least = ltb-false (length im) prolog_bytes a; most = ltb-false longest_image (length im) b } in
-      if_ind (Judged F) ((byte_at im 0 =? 0x43) and ((byte_at im 1 =? 0x4d) and (byte_at im 2 =? 0x46)))
+      if_ind J ((byte_at im 0 =? 0x43) and ((byte_at im 1 =? 0x4d) and (byte_at im 2 =? 0x46)))
       (λ c. let named : Named = record {
         c = eqb-true _ 0x43 (and_l _ _ c);
         m = eqb-true _ 0x4d (and_l _ _ (and_r _ _ c));
         f = eqb-true _ 0x46 (and_r _ _ (and_r _ _ c));
       } in
-      if_ind (Judged F) ((byte_at im 3 =? 0) and (byte_at im 4 =? 4))
+      if_ind J ((byte_at im 3 =? 0) and (byte_at im 4 =? 4))
       (λ d. let versioned : Versioned = record { major = eqb-true _ 0 (and_l _ _ d); minor = eqb-true _ 4 (and_r _ _ d) } in
-      if_ind (Judged F) ((byte_at im 8 =? 0xff) and (byte_at im 9 =? 0xfe))
+      if_ind J ((byte_at im 8 =? 0xff) and (byte_at im 9 =? 0xfe))
       (λ e. let marked : Marked = record { low = eqb-true _ 0xff (and_l _ _ e); high = eqb-true _ 0xfe (and_r _ _ e) } in
       no_fault refl (λ j q. let l = prolog_least (j + 1) (λ _. sized) (λ _. named) (λ _. versioned) (λ _. marked) j q in omega arith))
       (λ e. at_fault 5 refl (omega arith) (not_marked e) (prolog_least 5 (λ _. sized) (λ _. named) (λ _. versioned) (λ l. absurd (omega arith)))))
       (λ d. at_fault 4 refl (omega arith) (not_versioned d) (prolog_least 4 (λ _. sized) (λ _. named) (λ l. absurd (omega arith)) (λ l. absurd (omega arith)))))
       (λ c. at_fault 3 refl (omega arith) (not_named c) (prolog_least 3 (λ _. sized) (λ l. absurd (omega arith)) (λ l. absurd (omega arith)) (λ l. absurd (omega arith))))))
+    where
+      J : Option Refusal → Type 0
+      J r = Judged F (refusal_number r)

@@ -8,6 +8,7 @@ use mathlib.Core.List.Memᴰ
 use mathlib.Core.List.{List, [], ◌∷◌, ◌++◌, Memᴰ}
 use native.Mathlib.Omega.{arith}
 use lib.ListN.{length}
+use Rattle.cmf.specs.Refusals.{refusal_number}
 use Rattle.laws.proofs.Cases.{if_true}
 use Rattle.field.specs.declared.record.Field.{Field}
 use Rattle.cmf.specs.Limits.{deepest_table, most_lines_of_table, prolog_bytes}
@@ -30,7 +31,7 @@ some_line im t = omega arith
 
 -- a component: it reads without fault, and its field is one of the image's
 pub record PartIn (im : List ℕ) (fields : List Field) (c : ℕ) : Type 0 where
-  pub refusal : (component_at im c).refusal ≡ 0
+  pub refusal : refusal_number (component_at im c).refusal ≡ 0
   pub known : (component_at im c).fielded ≡ true → Memᴰ (component_at im c).field fields
 
 -- a line's components, in order: the last of the list has the mark of the last, and no other has it
@@ -47,7 +48,7 @@ pub record Reached (im : List ℕ) (fields : List Field) (left t : ℕ) : Type 0
 
 -- a line: head and components read without fault, and its submenu, if any, is a table reached with a level less
 pub record LineIn (im : List ℕ) (fields : List Field) (left p : ℕ) : Type 0 where
-  pub refusal : (head_at im p).refusal ≡ 0
+  pub refusal : refusal_number (head_at im p).refusal ≡ 0
   pub good : (head_at im p).typeable ≡ true
   pub parts : Chain im fields (components_of im p)
   pub below : (head_at im p).submenu ≡ true → Reached im fields left (head_at im p).table.0
@@ -168,7 +169,7 @@ module _ (im : List ℕ) (A : Agree im) (fields : List Field) where
   -- ---- tables
 
   -- a table reached has a title
-  pub title_reached : (left t : ℕ) → Reached im fields (suc left) t → (title_at im t).refusal ≡ 0
+  pub title_reached : (left t : ℕ) → Reached im fields (suc left) t → refusal_number (title_at im t).refusal ≡ 0
   unfolding Table
   title_reached left t r = (A.title_is r.table.title).refusal
 

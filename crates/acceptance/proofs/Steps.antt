@@ -6,6 +6,9 @@ use mathlib.Core.List.{List, [], ◌∷◌, append-nil}
 use native.Mathlib.Omega.{arith}
 use lib.ListN.{length, length-append}
 use borrow.Author.Tests.{leb-false, eqb-true, eqb-false, eq-eqb}
+use Rattle.cmf.specs.Refusals.{refusal_number}
+use Rattle.cmf.specs.declared.refusal.Refusal.TheVariants as fault
+use Rattle.std.specs.Prelude.{None}
 use Rattle.laws.specs.Choice.{when◌then◌else◌, ◌=?◌, ◌≤?◌}
 use Rattle.laws.specs.Bytes.{byte_at}
 use Rattle.laws.proofs.Cases.{if_ind, by_test, and_i, and_l, and_r, if_eq, if_ne, if_gt, if_true, if_false}
@@ -19,7 +22,7 @@ use Rattle.cmf.proofs.Agreement.{Agree, HeadReads, PlaceIs}
 use Rattle.cmf.specs.declared.component.Component as read
 use Rattle.acceptance.specs.declared.index.Entry.{Entry}
 use Rattle.acceptance.specs.declared.progress.Progress.{Progress}
-use Rattle.acceptance.specs.Check.{State, state, with, fine, refused, read_to, padded, take_title, agrees, line_placed, count_line, take_line, entry_of, in_sheet, apart_from, take_field, take_component, on_title, on_head, on_component}
+use Rattle.acceptance.specs.Check.{State, state, with, fine, stopped, read_to, padded, take_title, agrees, line_placed, count_line, take_line, entry_of, in_sheet, apart_from, take_field, take_component, on_title, on_head, on_component}
 use Rattle.acceptance.proofs.CameTo.{came_to, put, code_refused, is_refused_lem}
 use Rattle.acceptance.proofs.Takes.{Takes}
 
@@ -37,21 +40,21 @@ padded_reads im at p =
 module _ (im : List ℕ) (A : Agree im) (extent most : ℕ) where
   -- ---- a title: taken where it reads without fault, and nowhere else
 
-  pub title_goes : (t at lines : ℕ) (es : List Entry) → (title_at im t).refusal ≡ 0 → on_title im extent most t (came_to at lines es) ≡ came_to (title_at im t).end lines es
+  pub title_goes : (t at lines : ℕ) (es : List Entry) → refusal_number (title_at im t).refusal ≡ 0 → on_title im extent most t (came_to at lines es) ≡ came_to (title_at im t).end lines es
   unfolding on_title take_title
-  title_goes t at lines es z = ap (with (came_to at lines es)) (if_eq (title_at im t).refusal 0 _ _ z)
+  title_goes t at lines es z = ap (with (came_to at lines es)) (if_eq (refusal_number (title_at im t).refusal) 0 _ _ z)
 
-  pub title_read : (t : ℕ) (s : State) → fine (on_title im extent most t s) ≡ true → (title_at im t).refusal ≡ 0
+  pub title_read : (t : ℕ) (s : State) → fine (on_title im extent most t s) ≡ true → refusal_number (title_at im t).refusal ≡ 0
   unfolding on_title take_title
   title_read t s =
-      if_ind (λ (w : Progress). fine (with s w) ≡ true → (title_at im t).refusal ≡ 0) ((title_at im t).refusal =? 0)
+      if_ind (λ (w : Progress). fine (with s w) ≡ true → refusal_number (title_at im t).refusal ≡ 0) (refusal_number (title_at im t).refusal =? 0)
       (λ e h. eqb-true _ 0 e) (λ e h. code_refused s (title_at im t).refusal e h)
 
   -- ---- a line's head
 
   -- what is known of a head that the walk takes
   pub record Headed (n before p at lines : ℕ) : Type 0 where
-    pub refusal : (head_at im p).refusal ≡ 0
+    pub refusal : refusal_number (head_at im p).refusal ≡ 0
     pub head : Head im n before p (head_at im p).end
     pub aligned : Aligned im 1 at p
     pub few : n < most_lines_of_table
@@ -74,7 +77,7 @@ module _ (im : List ℕ) (A : Agree im) (extent most : ℕ) where
       let i = A.head_is h in
       let q = A.odd_is a in
       ap (with (came_to at lines es))
-      (if_eq (head_at im p).refusal 0 _ _ i.refusal
+      (if_eq (refusal_number (head_at im p).refusal) 0 _ _ i.refusal
       ∙ if_true _ _ (and_i (eq-eqb p (odd_from at) q.is) (and_i (padded_is im at p q.zeroed) (agrees_is n before p end h)))
       ∙ if_gt most_lines_of_table n _ _ few ∙ if_gt most_lines lines _ _ room ∙ if_true _ _ i.good)
       ∙ ap (λ (x : ℕ). came_to x (lines + 1) es) i.ends
@@ -96,13 +99,13 @@ module _ (im : List ℕ) (A : Agree im) (extent most : ℕ) where
         (λ _ f. absurd (false≢true f))
         (λ f b. r.head g n before (λ o. absurd (z o)) (λ l. f) (λ l. eqb-true _ p b)))
 
-    placed_read : (head_at im p).refusal ≡ 0 → line_placed im n before p s.progress ≡ true → P (count_line n (head_at im p) s.progress)
+    placed_read : refusal_number (head_at im p).refusal ≡ 0 → line_placed im n before p s.progress ≡ true → P (count_line n (head_at im p) s.progress)
     unfolding line_placed count_line
     placed_read z e =
         let r = A.head_reads p z in
         let q : PlaceIs im at p (odd_from at) = record { is = eqb-true p (odd_from at) (and_l _ _ e); zeroed = padded_reads im at p (and_l _ _ (and_r _ _ e)) } in
-        if_ind P (most_lines_of_table ≤? n) (λ _ h. is_refused_lem s 7 h)
-        (λ f. if_ind P (most_lines ≤? lines) (λ _ h. is_refused_lem s 7 h)
+        if_ind P (most_lines_of_table ≤? n) (λ _ h. is_refused_lem s fault.Limit h)
+        (λ f. if_ind P (most_lines ≤? lines) (λ _ h. is_refused_lem s fault.Limit h)
         (λ l. if_ind P (head_at im p).typeable
         (λ g h. record {
           refusal = z;
@@ -111,45 +114,45 @@ module _ (im : List ℕ) (A : Agree im) (extent most : ℕ) where
           few = leb-false most_lines_of_table n f;
           room = leb-false most_lines lines l;
         })
-        (λ _ h. is_refused_lem s 8 h)))
+        (λ _ h. is_refused_lem s fault.Setting h)))
 
     -- a head that the walk takes is the grammar's
     pub head_read : fine (on_head im extent most n before p s) ≡ true → Headed n before p at lines
     unfolding on_head take_line
     head_read =
-        if_ind P ((head_at im p).refusal =? 0)
-        (λ e. if_ind P (line_placed im n before p s.progress) (λ f. placed_read (eqb-true _ 0 e) f) (λ _ h. is_refused_lem s 6 h))
+        if_ind P (refusal_number (head_at im p).refusal =? 0)
+        (λ e. if_ind P (line_placed im n before p s.progress) (λ f. placed_read (eqb-true _ 0 e) f) (λ _ h. is_refused_lem s fault.Form h))
         (λ e h. code_refused s (head_at im p).refusal e h)
 
   -- ---- a component
 
   -- a component without fault is taken with its field, if it is one
   part_goes :
-      (c : read.Component) (p at lines : ℕ) (es : List Entry) → c.refusal ≡ 0 → padded im at p ≡ true → Takes extent most es (held_by c) →
+      (c : read.Component) (p at lines : ℕ) (es : List Entry) → refusal_number c.refusal ≡ 0 → padded im at p ≡ true → Takes extent most es (held_by c) →
       take_component im extent most p c (came_to at lines es) ≡ came_to c.end lines (put es (held_by c))
   unfolding take_component take_field
   part_goes c p at lines es z d t =
-      if_ne c.refusal 6 _ _ (λ e. omega arith) ∙ if_true _ _ d ∙ by_test {A = chosen ≡ came_to c.end lines (put es (held_by c))} c.fielded field plain
+      if_ne (refusal_number c.refusal) 6 _ _ (λ e. omega arith) ∙ if_true _ _ d ∙ by_test {A = chosen ≡ came_to c.end lines (put es (held_by c))} c.fielded field plain
     where
       s : State
       s = came_to at lines es
 
       go : Takes extent most es (c.field ∷ []) → take_field extent most c s ≡ came_to c.end lines (put es (c.field ∷ []))
       go (Takes.add a b f u) =
-          if_gt most (length es) _ _ a ∙ if_eq c.refusal 0 _ _ z ∙ if_true _ _ b ∙ if_true _ _ f
-          ∙ ap (λ (k : ℕ). state (record { refusal = 0; at = c.end; lines = lines; fields = k }) (put es (c.field ∷ []))) (sym (length-append es (entry_of c.field ∷ [])))
+          if_gt most (length es) _ _ a ∙ if_eq (refusal_number c.refusal) 0 _ _ z ∙ if_true _ _ b ∙ if_true _ _ f
+          ∙ ap (λ (k : ℕ). state (record { refusal = None; at = c.end; lines = lines; fields = k }) (put es (c.field ∷ []))) (sym (length-append es (entry_of c.field ∷ [])))
 
       chosen : State
       chosen =
           when c.fielded then take_field extent most c s
-          else when c.refusal =? 0 then with s (read_to s.progress c.end)
-          else with s (refused s.progress c.refusal)
+          else when refusal_number c.refusal =? 0 then with s (read_to s.progress c.end)
+          else with s (stopped s.progress c.refusal)
 
       field : c.fielded ≡ true → chosen ≡ came_to c.end lines (put es (held_by c))
       field e = if_true _ _ e ∙ rw (if_true (c.field ∷ []) [] e) (go (rw (if_true (c.field ∷ []) [] e) at t))
 
       plain : c.fielded ≡ false → chosen ≡ came_to c.end lines (put es (held_by c))
-      plain e = if_false _ _ e ∙ if_eq c.refusal 0 _ _ z ∙ rw (if_false (c.field ∷ []) [] e, append-nil)
+      plain e = if_false _ _ e ∙ if_eq (refusal_number c.refusal) 0 _ _ z ∙ rw (if_false (c.field ∷ []) [] e, append-nil)
 
   -- a component of the grammar is taken
   pub component_goes :
@@ -162,7 +165,7 @@ module _ (im : List ℕ) (A : Agree im) (extent most : ℕ) where
 
   -- what is known of a component that the walk takes
   pub record Taken (p at : ℕ) (es : List Entry) : Type 0 where
-    pub refusal : (component_at im p).refusal ≡ 0
+    pub refusal : refusal_number (component_at im p).refusal ≡ 0
     pub padding : (at ≡ p → ⊥) → byte_at im at ≡ 0
     pub takes : Takes extent most es (held_by (component_at im p))
 
@@ -179,8 +182,8 @@ module _ (im : List ℕ) (A : Agree im) (extent most : ℕ) where
     field_read : padded im at p ≡ true → c.fielded ≡ true → Q (take_field extent most c u)
     unfolding take_field
     field_read d f =
-        if_ind Q (most ≤? length es) (λ _ h. is_refused_lem u 7 h)
-        (λ k. if_ind Q (c.refusal =? 0)
+        if_ind Q (most ≤? length es) (λ _ h. is_refused_lem u fault.Limit h)
+        (λ k. if_ind Q (refusal_number c.refusal =? 0)
         (λ e. if_ind Q (in_sheet extent (entry_of c.field))
         (λ i. if_ind Q (apart_from (entry_of c.field) es)
         (λ a h. record {
@@ -188,18 +191,18 @@ module _ (im : List ℕ) (A : Agree im) (extent most : ℕ) where
           padding = padded_reads im at p d;
           takes = rw (if_true (c.field ∷ []) [] f) (Takes.add (leb-false most (length es) k) i a Takes.none);
         })
-        (λ _ h. is_refused_lem u 10 h))
-        (λ _ h. is_refused_lem u 9 h))
+        (λ _ h. is_refused_lem u fault.Overlap h))
+        (λ _ h. is_refused_lem u fault.Sheet h))
         (λ e h. code_refused u c.refusal e h))
 
     -- a component that the walk takes reads without fault, with its padding and its field
     pub component_read_lem : fine (on_component im extent most p u) ≡ true → Taken p at es
     unfolding on_component take_component
     component_read_lem =
-        if_ind Q (c.refusal =? 6) (λ _ h. is_refused_lem u 5 h)
+        if_ind Q (refusal_number c.refusal =? 6) (λ _ h. is_refused_lem u fault.Cut h)
         (λ _. if_ind Q (padded im at p)
         (λ d. if_ind Q c.fielded (field_read d)
-        (λ f. if_ind Q (c.refusal =? 0)
+        (λ f. if_ind Q (refusal_number c.refusal =? 0)
         (λ e h. record { refusal = eqb-true _ 0 e; padding = padded_reads im at p d; takes = rw (if_false (c.field ∷ []) [] f) Takes.none })
         (λ e h. code_refused u c.refusal e h)))
-        (λ _ h. is_refused_lem u 6 h))
+        (λ _ h. is_refused_lem u fault.Form h))

@@ -6,6 +6,7 @@ use mathlib.Core.Bool.{true, false}
 use mathlib.Core.List.{List, [], ◌∷◌, ◌++◌}
 use native.Mathlib.Omega.{arith}
 use native.Mathlib.Nat.{add_assoc}
+use Rattle.cmf.specs.declared.refusal.Refusal.TheVariants as fault
 use Rattle.laws.specs.Choice.{when◌then◌else◌}
 use Rattle.laws.proofs.Cases.{by_test, if_true, if_false}
 use Rattle.field.specs.declared.record.Field.{Field}
@@ -161,7 +162,7 @@ module _ (im : List ℕ) (A : Agree im) (extent most : ℕ) where
   -- R15: no table is taken where no level is left
   too_deep : {A : Type 0} (t : ℕ) (s : State) → fine (on_table im extent most 0 t s) ≡ true → A
   unfolding on_table
-  too_deep t s f = is_refused_lem (on_title im extent most t s) 7 (then_fine _ _ f).after
+  too_deep t s f = is_refused_lem (on_title im extent most t s) fault.Limit (then_fine _ _ f).after
 
   -- tables that the walk takes are the grammar's
   pub table_read : (left : ℕ) → SubReads im A extent most (on_table im extent most left) (Table im left)

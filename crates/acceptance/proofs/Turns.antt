@@ -7,6 +7,8 @@ use mathlib.Core.List.{List, ◌∷◌}
 use native.Mathlib.Omega.{arith}
 use lib.ListN.{length}
 use borrow.Author.Tests.{leb-false, eqb-true}
+use Rattle.cmf.specs.Refusals.{refusal_number}
+use Rattle.cmf.specs.declared.refusal.Refusal.TheVariants as fault
 use Rattle.laws.specs.Choice.{◌=?◌, ◌≤?◌}
 use Rattle.laws.proofs.Cases.{by_test, if_ind, if_true, if_false}
 use Rattle.cmf.specs.Limits.{most_lines_of_table}
@@ -52,26 +54,26 @@ module _ (im : List ℕ) where
 
   -- for the walk, which stops at a refusal, that follows from what is known of components without fault
   module _ (A : Agree im) (extent most : ℕ) where
-    part_code : (c : ℕ) (s : State) → fine (on_component im extent most c s) ≡ true → (component_at im c).refusal ≡ 0
+    part_code : (c : ℕ) (s : State) → fine (on_component im extent most c s) ≡ true → refusal_number (component_at im c).refusal ≡ 0
     unfolding on_component take_component take_field
     part_code c s =
-        if_ind P (x.refusal =? 6) (λ _ h. is_refused_lem s 5 h)
+        if_ind P (refusal_number x.refusal =? 6) (λ _ h. is_refused_lem s fault.Cut h)
         (λ _. if_ind P (padded im s.progress.at c)
         (λ _. if_ind P x.fielded
-        (λ _. if_ind P (most ≤? s.progress.fields) (λ _ h. is_refused_lem s 7 h)
-        (λ _. if_ind P (x.refusal =? 0) (λ e _. eqb-true _ 0 e) (λ e h. code_refused s x.refusal e h)))
-        (λ _. if_ind P (x.refusal =? 0) (λ e _. eqb-true _ 0 e) (λ e h. code_refused s x.refusal e h)))
-        (λ _ h. is_refused_lem s 6 h))
+        (λ _. if_ind P (most ≤? s.progress.fields) (λ _ h. is_refused_lem s fault.Limit h)
+        (λ _. if_ind P (refusal_number x.refusal =? 0) (λ e _. eqb-true _ 0 e) (λ e h. code_refused s x.refusal e h)))
+        (λ _. if_ind P (refusal_number x.refusal =? 0) (λ e _. eqb-true _ 0 e) (λ e h. code_refused s x.refusal e h)))
+        (λ _ h. is_refused_lem s fault.Form h))
       where
         x : read.Component
         x = component_at im c
 
         P : State → Type 0
-        P r = fine r ≡ true → (component_at im c).refusal ≡ 0
+        P r = fine r ≡ true → refusal_number (component_at im c).refusal ≡ 0
 
     same_parts :
         (c : ℕ) (cs ds : List ℕ) (s : State) →
-        ((component_at im c).refusal ≡ 0 → (r : State) → on_components im extent most cs r ≡ on_components im extent most ds r) →
+        (refusal_number (component_at im c).refusal ≡ 0 → (r : State) → on_components im extent most cs r ≡ on_components im extent most ds r) →
         on_components im extent most (c ∷ cs) s ≡ on_components im extent most (c ∷ ds) s
     unfolding on_components
     same_parts c cs ds s h = then_same _ _ _ (λ f. h (part_code c s f) _)
@@ -102,11 +104,11 @@ module _ (im : List ℕ) where
     head_few : (n before p : ℕ) (s : State) → fine (on_head im extent most n before p s) ≡ true → n < most_lines_of_table
     unfolding on_head take_line count_line
     head_few n before p s =
-        if_ind P ((head_at im p).refusal =? 0)
+        if_ind P (refusal_number (head_at im p).refusal =? 0)
         (λ _. if_ind P (line_placed im n before p s.progress)
-        (λ _. if_ind P (most_lines_of_table ≤? n) (λ _ h. is_refused_lem s 7 h)
+        (λ _. if_ind P (most_lines_of_table ≤? n) (λ _ h. is_refused_lem s fault.Limit h)
         (λ e _. leb-false most_lines_of_table n e))
-        (λ _ h. is_refused_lem s 6 h))
+        (λ _ h. is_refused_lem s fault.Form h))
         (λ e h. code_refused s (head_at im p).refusal e h)
       where
         P : Progress → Type 0

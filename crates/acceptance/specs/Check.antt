@@ -1,7 +1,7 @@
 -- The check of an image and a sheet: 01's table of refusals, structure by structure in the order of the walk,
 -- which goes from line to line, at each through its components and then down into its submenu. What it meets
 -- first is refused, and of several faults there the one with the lowest number.
-use Rattle.std.specs.Prelude.{ℕ, zero, suc, ◌+◌, Bool, true, false, List, [], ◌∷◌, ◌++◌, length}
+use Rattle.std.specs.Prelude.{ℕ, zero, suc, ◌+◌, Bool, true, false, List, [], ◌∷◌, ◌++◌, length, Option, Some, None}
 use Rattle.laws.specs.Choice.{when◌then◌else◌, ◌and◌, ◌=?◌, ◌<?◌, ◌≤?◌}
 use Rattle.laws.specs.Bytes.{byte_at, room}
 use Rattle.field.specs.Sheet.{size_of}
@@ -10,6 +10,9 @@ use Rattle.cmf.specs.Limits.{longest_image, deepest_table, most_lines_of_table, 
 use Rattle.cmf.specs.Limits.{longest_sheet, prolog_bytes}
 use Rattle.cmf.specs.Readers.{odd_from, title_at, first_at, back_at, head_at, component_at}
 use Rattle.cmf.specs.Places.{lines_of, components_of}
+use Rattle.cmf.specs.Refusals.{refusal_number}
+use Rattle.cmf.specs.declared.refusal.Refusal.{Refusal}
+use Rattle.cmf.specs.declared.refusal.Refusal.TheVariants as fault
 use Rattle.cmf.specs.declared.title.Title.{Title}
 use Rattle.cmf.specs.declared.head.Head.{Head}
 use Rattle.cmf.specs.declared.component.Component.{Component}
@@ -29,21 +32,25 @@ with s w = state w s.fields
 
 -- no refusal so far
 unfoldable pub fine : State → Bool
-fine s = s.progress.refusal =? 0
+fine s = refusal_number s.progress.refusal =? 0
 
-abbrev pub refused : Progress → ℕ → Progress
-refused w k = record { refusal = k; at = w.at; lines = w.lines; fields = w.fields }
+-- with a refusal, or with that of a structure
+abbrev pub stopped : Progress → Option Refusal → Progress
+stopped w r = record { refusal = r; at = w.at; lines = w.lines; fields = w.fields }
+
+abbrev pub refused : Progress → Refusal → Progress
+refused w r = stopped w (Some r)
 
 -- a thing that ends at `at` is read
 abbrev pub read_to : Progress → ℕ → Progress
-read_to w at = record { refusal = 0; at = at; lines = w.lines; fields = w.fields }
+read_to w at = record { refusal = None; at = at; lines = w.lines; fields = w.fields }
 
 -- the walk goes on after a line that ends at `at`; where it is refused it stays where the last structure
 -- without fault ended
 abbrev pub past_line : Progress → ℕ → Progress
 past_line w at = record {
   refusal = w.refusal;
-  at = when w.refusal =? 0 then at
+  at = when refusal_number w.refusal =? 0 then at
       else w.at;
   lines = w.lines;
   fields = w.fields;
@@ -61,7 +68,7 @@ padded im at place = when at =? place then true else byte_at im at =? 0
 -- ---- a table's title
 
 unfoldable pub take_title : Title → Progress → Progress
-take_title t w = when t.refusal =? 0 then read_to w t.end else refused w t.refusal
+take_title t w = when refusal_number t.refusal =? 0 then read_to w t.end else stopped w t.refusal
 
 -- ---- a line's head
 
@@ -80,15 +87,16 @@ line_placed im n before p w = (p =? odd_from w.at) and (padded im w.at p and agr
 -- 01, row 8: the 100th line of its table or the 1,025th of the walk is at fault; row 9: so is a bad password
 unfoldable pub count_line : ℕ → Head → Progress → Progress
 count_line n h w =
-    when most_lines_of_table ≤? n then refused w 8
-    else when most_lines ≤? w.lines then refused w 8
-    else when h.typeable then record { refusal = 0; at = h.end; lines = w.lines + 1; fields = w.fields }
-    else refused w 9
+    when most_lines_of_table ≤? n then refused w fault.Limit
+    else when most_lines ≤? w.lines then refused w fault.Limit
+    else when h.typeable then record { refusal = None; at = h.end; lines = w.lines + 1; fields = w.fields }
+    else refused w fault.Setting
 
 unfoldable pub take_line : List ℕ → ℕ → ℕ → ℕ → Head → Progress → Progress
 take_line im n before p h w =
-    when h.refusal =? 0 then (when line_placed im n before p w then count_line n h w else refused w 7)
-    else refused w h.refusal
+    when refusal_number h.refusal =? 0
+    then (when line_placed im n before p w then count_line n h w else refused w fault.Form)
+    else stopped w h.refusal
 
 -- ---- a component
 
@@ -116,25 +124,25 @@ apart_from e (f ∷ fs) = apart e f and apart_from e fs
 -- settings, 10 and 11 for its bytes in the sheet
 unfoldable pub take_field : ℕ → ℕ → Component → State → State
 take_field extent most c s =
-    when most ≤? s.progress.fields then with s (refused s.progress 8)
-    else when c.refusal =? 0 then
+    when most ≤? s.progress.fields then with s (refused s.progress fault.Limit)
+    else when refusal_number c.refusal =? 0 then
     (when in_sheet extent (entry_of c.field) then
     (when apart_from (entry_of c.field) s.fields then
-    state (record { refusal = 0; at = c.end; lines = s.progress.lines; fields = s.progress.fields + 1 })
+    state (record { refusal = None; at = c.end; lines = s.progress.lines; fields = s.progress.fields + 1 })
     (s.fields ++ (entry_of c.field ∷ []))
-    else with s (refused s.progress 11))
-    else with s (refused s.progress 10))
-    else with s (refused s.progress c.refusal)
+    else with s (refused s.progress fault.Overlap))
+    else with s (refused s.progress fault.Sheet))
+    else with s (stopped s.progress c.refusal)
 
 -- a component at a place: 6 first, then 7 for the padding before it
 unfoldable pub take_component : List ℕ → ℕ → ℕ → ℕ → Component → State → State
 take_component im extent most p c s =
-    when c.refusal =? 6 then with s (refused s.progress 6)
+    when refusal_number c.refusal =? 6 then with s (refused s.progress fault.Cut)
     else when padded im s.progress.at p then
     (when c.fielded then take_field extent most c s
-    else when c.refusal =? 0 then with s (read_to s.progress c.end)
-    else with s (refused s.progress c.refusal))
-    else with s (refused s.progress 7)
+    else when refusal_number c.refusal =? 0 then with s (read_to s.progress c.end)
+    else with s (stopped s.progress c.refusal))
+    else with s (refused s.progress fault.Form)
 
 -- ---- the walk
 
@@ -174,33 +182,34 @@ module _ (im : List ℕ) (extent most : ℕ) where
   -- the table at a place; so many levels are left, its own among them. R15: a table too deep is 6 if its
   -- title is not all there, else 8
   unfoldable pub on_table : ℕ → ℕ → State → State
-  on_table zero t s = and_then (on_title t s) (with (on_title t s) (refused (on_title t s).progress 8))
+  on_table zero t s = and_then (on_title t s) (with (on_title t s) (refused (on_title t s).progress fault.Limit))
   on_table (suc left) t s = and_then (on_title t s) (on_lines (on_table left) 0 0 (lines_of im t)
       (on_title t s))
 
 abbrev pub start : State
-start = state (record { refusal = 0; at = 0; lines = 0; fields = 0 }) []
+start = state (record { refusal = None; at = 0; lines = 0; fields = 0 }) []
 
 -- the walk from the top table on
 unfoldable pub walked : List ℕ → ℕ → State
 walked im extent = on_table im extent most_fields deepest_table prolog_bytes start
 
 -- 01, rows 2 to 5: the prolog
-unfoldable pub prolog_code : List ℕ → ℕ
-prolog_code im =
-    when length im <? prolog_bytes then 2
-    else when longest_image <? length im then 2
+unfoldable pub prolog_refusal : List ℕ → Option Refusal
+prolog_refusal im =
+    when length im <? prolog_bytes then Some fault.Length
+    else when longest_image <? length im then Some fault.Length
     else when (byte_at im 0 =? 0x43) and ((byte_at im 1 =? 0x4d) and (byte_at im 2 =? 0x46)) then
     (when (byte_at im 3 =? 0) and (byte_at im 4 =? 4) then
-    (when (byte_at im 8 =? 0xff) and (byte_at im 9 =? 0xfe) then 0 else 5)
-    else 4)
-    else 3
+    (when (byte_at im 8 =? 0xff) and (byte_at im 9 =? 0xfe) then None else Some fault.Order)
+    else Some fault.Version)
+    else Some fault.Name
 
--- the refusal number of an image for a sheet of so many bytes, 0 for none, with the fields that were taken
+-- the refusal of an image for a sheet of so many bytes, with the fields that were taken
 unfoldable pub checked : List ℕ → ℕ → State
 checked im extent =
-    when prolog_code im =? 0 then walked im extent
-    else with start (refused start.progress (prolog_code im))
+    when refusal_number (prolog_refusal im) =? 0 then walked im extent
+    else with start (stopped start.progress (prolog_refusal im))
 
+-- the refusal number, 0 for none
 unfoldable pub refusal_of : List ℕ → ℕ → ℕ
-refusal_of im extent = (checked im extent).progress.refusal
+refusal_of im extent = refusal_number (checked im extent).progress.refusal

@@ -22,54 +22,38 @@ impl Entry {
     pub fn of_field(f: Field) -> Self
         ensures { result ≡ entry_of f }
     {
-        let kind = f.kind;
-        let place = f.image;
-        let from = f.sheet;
         Entry {
-            place,
-            from,
-            size: profile_of(kind).bytes as usize,
+            place: f.image,
+            from: f.sheet,
+            size: profile_of(f.kind).bytes as usize,
         }
     }
 
     // Whether its bytes lie in a sheet that is not too long.
+    #[tactic(auto, using(laws::proofs::Cases::choices), unfolding(crate::specs::Check::in_sheet, laws::specs::Bytes::room))]
     pub fn in_sheet(self, extent: usize) -> bool
         ensures { result ≡ in_sheet extent self }
     {
-        if extent <= Image::MAX_SHEET {
-            if self.from.0 <= extent {
-                return self.size <= extent - self.from.0;
-            }
-            return false;
-        }
-        false
+        extent <= Image::MAX_SHEET && self.from.0 <= extent && self.size <= extent - self.from.0
     }
 
     // Whether its bytes end at a place or before.
+    #[tactic(auto, using(laws::proofs::Cases::choices))]
     fn ends_by(self, at: usize) -> bool
         ensures { result ≡ (self.from.0 + self.size) ≤? at }
     {
-        if self.size <= at {
-            return self.from.0 <= at - self.size;
-        }
-        false
+        self.size <= at && self.from.0 <= at - self.size
     }
 
     // Whether it shares no byte with another.
+    #[tactic(auto, using(laws::proofs::Cases::choices), unfolding(crate::specs::Check::apart))]
     fn apart(self, other: Entry) -> bool
         ensures { result ≡ apart self other }
     {
-        if self.size == 0 {
-            return true;
-        }
-        if other.size == 0 {
-            return true;
-        }
-        let before = self.ends_by(other.from.0);
-        if before {
-            return true;
-        }
-        other.ends_by(self.from.0)
+        self.size == 0
+            || other.size == 0
+            || self.ends_by(other.from.0)
+            || other.ends_by(self.from.0)
     }
 }
 
@@ -77,8 +61,7 @@ impl Entry {
 pub fn entry_at(index: &[usize], k: usize) -> Entry
     ensures { result ≡ entry_at index.now k }
 {
-    let there = has_triple(index.len(), k);
-    if there {
+    if has_triple(index.len(), k) {
         let at = 3 * k;
         return Entry {
             place: ImagePlace(index[at]),
@@ -97,8 +80,7 @@ pub fn entry_at(index: &[usize], k: usize) -> Entry
 pub fn set_entry(index: &mut [usize], k: usize, e: Entry)
     ensures { index.new ≡ with_entry index.old k e }
 {
-    let there = has_triple(index.len(), k);
-    if there {
+    if has_triple(index.len(), k) {
         let at = 3 * k;
         index[at] = e.place.0;
         index[at + 1] = e.from.0;
@@ -110,13 +92,10 @@ pub fn set_entry(index: &mut [usize], k: usize, e: Entry)
 pub fn apart_from(e: Entry, index: &[usize], k: usize) -> bool
     ensures { result ≡ apart_from e (listed index.now k) }
 {
-    let mut i = 0;
-    while i < k {
-        let ok = e.apart(entry_at(index, i));
-        if !ok {
+    for i in 0..k {
+        if !e.apart(entry_at(index, i)) {
             return false;
         }
-        i = i + 1;
     }
     true
 }

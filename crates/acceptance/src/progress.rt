@@ -2,25 +2,25 @@
 ghost use Rattle.std.specs.Prelude.{◌≡◌};
 ghost use Rattle.acceptance.specs.Check.{refused, read_to, past_line};
 
-// The refusal number, 0 for none yet; where the last structure without fault ended; how many lines and fields
+use cmf::refusal::Refusal;
+
+// The refusal, if there is one by now; where the last structure without fault ended; how many lines and fields
 // are without fault.
 #[derive(Clone, Copy)]
 pub struct Progress {
-    pub refusal: u8,
+    pub refusal: Option<Refusal>,
     pub at: usize,
     pub lines: usize,
     pub fields: usize,
 }
 
 impl Progress {
-    pub fn refused(self, code: u8) -> Self
-        ensures { result ≡ refused self code }
+    pub fn refused(self, refusal: Refusal) -> Self
+        ensures { result ≡ refused self refusal }
     {
         Progress {
-            refusal: code,
-            at: self.at,
-            lines: self.lines,
-            fields: self.fields,
+            refusal: Some(refusal),
+            ..self
         }
     }
 
@@ -29,25 +29,20 @@ impl Progress {
         ensures { result ≡ read_to self at }
     {
         Progress {
-            refusal: 0,
+            refusal: None,
             at,
-            lines: self.lines,
-            fields: self.fields,
+            ..self
         }
     }
 
     // On after a line that ends at a place; a refused walk stays where it is.
+    #[tactic(auto, using(laws::proofs::Cases::choices))]
     pub fn past_line(self, at: usize) -> Self
         ensures { result ≡ past_line self at }
     {
-        if self.refusal != 0 {
+        if self.refusal.is_some() {
             return self;
         }
-        Progress {
-            refusal: self.refusal,
-            at,
-            lines: self.lines,
-            fields: self.fields,
-        }
+        Progress { at, ..self }
     }
 }

@@ -1,4 +1,5 @@
 pub mod Example
+pub mod Numbers
 pub mod Agreement
 pub mod Turning
 pub mod Finding

@@ -1,5 +1,4 @@
--- Each return is the case of the definition that the tests on its path choose.
-use Prim.Native.Nat.{◌-◌, ◌≤◌}
+-- The loop: the field is apart from the entries so far.
 use mathlib.Core.Path.{◌≡◌}
 use mathlib.Core.Bool.{true}
 use Rattle.acceptance.specs.Check.{apart_from}
@@ -7,7 +6,4 @@ use Rattle.acceptance.specs.Index.{listed}
 use Rattle.acceptance.proofs.index.apart_from.Given as goal
 
 abbrev pub invariant-loop-i : goal.invariant-loop-i
-invariant-loop-i l = (apart_from l.e (listed l.index l.i) ≡ true) × (l.i ≤ l.k)
-
-abbrev pub decreases-loop-i : goal.decreases-loop-i
-decreases-loop-i l = l.k - l.i
+invariant-loop-i l = apart_from l.e (listed l.index l.i) ≡ true

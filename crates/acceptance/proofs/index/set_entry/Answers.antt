@@ -8,36 +8,36 @@ use lib.ListN.{length-set}
 use Rattle.acceptance.proofs.index.set_entry.Goals as goal
 
 pub overflow_mul-at : goal.overflow_mul-at
-overflow_mul-at c = let e = via c.has_triple-there.ensures c.if-there.true in omega (arith, ltb-true)
+overflow_mul-at c = let e = via c.has_triple.ensures c.if-has_triple.true in omega (arith, ltb-true)
 
 pub offset_bounds-index-at : goal.offset_bounds-index-at
-offset_bounds-index-at c = let e = via c.has_triple-there.ensures c.if-there.true in omega (arith, ltb-true)
+offset_bounds-index-at c = let e = via c.has_triple.ensures c.if-has_triple.true in omega (arith, ltb-true)
 
 pub bounds-index-at : goal.bounds-index-at
-bounds-index-at c = let e = via c.has_triple-there.ensures c.if-there.true in omega (arith, ltb-true)
+bounds-index-at c = let e = via c.has_triple.ensures c.if-has_triple.true in omega (arith, ltb-true)
 
 pub overflow_add-index : goal.overflow_add-index
-overflow_add-index c = let e = via c.has_triple-there.ensures c.if-there.true in omega (arith, ltb-true)
+overflow_add-index c = let e = via c.has_triple.ensures c.if-has_triple.true in omega (arith, ltb-true)
 
-pub offset_bounds-index-at-then-there : goal.offset_bounds-index-at-then-there
-offset_bounds-index-at-then-there c = let e = via c.has_triple-there.ensures c.if-there.true in omega (arith, ltb-true)
+pub offset_bounds-index-at-then-has_triple : goal.offset_bounds-index-at-then-has_triple
+offset_bounds-index-at-then-has_triple c = let e = via c.has_triple.ensures c.if-has_triple.true in omega (arith, ltb-true)
 
-pub bounds-index-at-then-there : goal.bounds-index-at-then-there
-bounds-index-at-then-there c = let e = via c.has_triple-there.ensures c.if-there.true in simp length-set (omega (arith, ltb-true))
+pub bounds-index-at-then-has_triple : goal.bounds-index-at-then-has_triple
+bounds-index-at-then-has_triple c = let e = via c.has_triple.ensures c.if-has_triple.true in simp length-set (omega (arith, ltb-true))
 
-pub overflow_add-index-then-there : goal.overflow_add-index-then-there
-overflow_add-index-then-there c = let e = via c.has_triple-there.ensures c.if-there.true in omega (arith, ltb-true)
+pub overflow_add-index-then-has_triple : goal.overflow_add-index-then-has_triple
+overflow_add-index-then-has_triple c = let e = via c.has_triple.ensures c.if-has_triple.true in omega (arith, ltb-true)
 
-pub offset_bounds-index-at-then-there-2 : goal.offset_bounds-index-at-then-there-2
-offset_bounds-index-at-then-there-2 c = let e = via c.has_triple-there.ensures c.if-there.true in omega (arith, ltb-true)
+pub offset_bounds-index-at-then-has_triple-2 : goal.offset_bounds-index-at-then-has_triple-2
+offset_bounds-index-at-then-has_triple-2 c = let e = via c.has_triple.ensures c.if-has_triple.true in omega (arith, ltb-true)
 
-pub bounds-index-at-then-there-2 : goal.bounds-index-at-then-there-2
-bounds-index-at-then-there-2 c = let e = via c.has_triple-there.ensures c.if-there.true in simp length-set (omega (arith, ltb-true))
+pub bounds-index-at-then-has_triple-2 : goal.bounds-index-at-then-has_triple-2
+bounds-index-at-then-has_triple-2 c = let e = via c.has_triple.ensures c.if-has_triple.true in simp length-set (omega (arith, ltb-true))
 
-pub returns-then-there : goal.returns-then-there
+pub returns-then-has_triple : goal.returns-then-has_triple
 unfolding with_entry when◌then◌else◌
-returns-then-there c = simp (via c.has_triple-there.ensures c.if-there.true)
+returns-then-has_triple c = simp (via c.has_triple.ensures c.if-has_triple.true)
 
-pub returns-else-there : goal.returns-else-there
+pub returns-else-has_triple : goal.returns-else-has_triple
 unfolding with_entry when◌then◌else◌
-returns-else-there c = simp (via c.has_triple-there.ensures c.if-there.false)
+returns-else-has_triple c = simp (via c.has_triple.ensures c.if-has_triple.false)
