@@ -1,8 +1,9 @@
 -- A refusal has a number above 0, so that 0 says that there is none.
 use Prim.Native.Nat.{ℕ, ◌<◌}
-use mathlib.Core.Path.{◌≡◌, refl}
+use mathlib.Core.Path.{◌≡◌, refl, sym, ◌∙◌}
+use mathlib.Core.Bool.{Bool, true, false, false≢true}
 use native.Mathlib.Omega.{arith}
-use Rattle.std.specs.Prelude.{Option, Some, None}
+use Rattle.std.specs.Prelude.{Option, Some, None, is_some}
 use Rattle.cmf.specs.Refusals.{number, refusal_number}
 use Rattle.cmf.specs.declared.refusal.Refusal.{Refusal}
 use Rattle.cmf.specs.declared.refusal.Refusal.TheVariants as fault
@@ -27,6 +28,11 @@ number_positive fault.Record = omega arith
 number_positive fault.OtherForm = omega arith
 number_positive fault.Room = omega arith
 
-pub none_is : (r : Option Refusal) → refusal_number r ≡ 0 → r ≡ None
-none_is None e = refl
-none_is (Some r) e = absurd (omega (arith, number_positive r))
+-- what is told of a refusal by asking whether there is one
+pub refused_number : (r : Option Refusal) {t : Bool} → t ≡ is_some r → t ≡ true → refusal_number r ≡ 0 → ⊥
+refused_number None e y z = false≢true (sym e ∙ y)
+refused_number (Some r) e y z = omega (arith, number_positive r)
+
+pub unrefused_number : (r : Option Refusal) {t : Bool} → t ≡ is_some r → t ≡ false → refusal_number r ≡ 0
+unrefused_number None e y = refl
+unrefused_number (Some r) e y = absurd (false≢true (sym y ∙ e))

@@ -15,7 +15,7 @@ use Rattle.field.specs.Sheet.{default_written, begun, finished_in}
 use Rattle.keys.specs.Keys as key
 use Rattle.cmf.specs.Readers.{image_of, texts_from, all_digits, password_fits, title_by, title_at, head_by, head_at, fixed_bytes, text_count, given, kind_at, default_place, sheet_place_at, laid_out, component_by, component_at}
 use Rattle.cmf.specs.Places.{lines_from, lines_of, components_from, components_of, line_from, line_at, line_count, first_editable, next_editable, line_reach, lines_reach, table_reach, component_places, fields_among, fields_of, is_in}
-use Rattle.acceptance.specs.Check.{fine, and_then, padded, take_title, agrees, line_placed, count_line, take_line, in_sheet, apart_from, take_field, take_component, on_component, on_components, on_head, on_title, on_submenu, on_body, on_line, on_lines, on_table, walked, prolog_code, checked, refusal_of}
+use Rattle.acceptance.specs.Check.{fine, and_then, padded, take_title, agrees, line_placed, count_line, take_line, in_sheet, apart_from, take_field, take_component, on_component, on_components, on_head, on_title, on_submenu, on_body, on_line, on_lines, on_table, walked, prolog_refusal, checked, refusal_of}
 use Rattle.session.specs.Session.{opened, closed}
 use Rattle.session.specs.Fits.{shape_fits, cursor_head, level_fits, levels_fit, tables_fit, work_fits, visit_fits, digits_to, entry_fits, mode_fits, session_fits}
 use Rattle.session.specs.Events.{up, down, left, right, second}
@@ -52,10 +52,10 @@ further =
 
 -- every starred case
 pub starred_as_listed : AsListed starred
-unfolding starred begun_with next answer_to played answered_in answer_number event_refusal event_step event_sheet session_refusal open_refusal open_answer defaults_written line_reach lines_reach table_reach component_places fields_among fields_of open_sheet ◌before◌ ◌unless◌ step_in sheet_in pressed next_editable moved_to moved_on followed followed_sheet visit_step visit_sheet right_to last_digit digit_step entry_step first_for up_step down_step left_step descended right_step first_editable enter_at enter_step browse_step later delay_over browse_second shape_fits cursor_head level_fits levels_fit tables_fit is_in work_fits visit_fits digits_to entry_fits mode_fits session_fits opened closed when◌then◌else◌ ◌and◌ word_at room put_at fit digits_of number_from low_first from_low format_of signs_of digits_in base_of limit_of half_of top_of profile_of cell_of open_day held_to number_of value_from spans distance in_digits shown_by minus storable of_digits cells_of stored_in in_span stores within all_within legal in_range work_of started finished digit_count counted_cells step_fits width_fits kind_fits settings_fit default_written begun finished_in key.raised key.lowered key.up_key key.down_key key.left_key key.right_key key.on_right key.digit_key key.part_after key.capped key.enter_key image_of texts_from all_digits password_fits title_by title_at head_by head_at fixed_bytes text_count given kind_at default_place sheet_place_at laid_out component_by component_at lines_from lines_of components_from components_of line_from line_at line_count fine and_then padded take_title agrees line_placed count_line take_line in_sheet apart_from take_field take_component on_component on_components on_head on_title on_submenu on_body on_line on_lines on_table walked prolog_code checked refusal_of
+unfolding starred begun_with next answer_to played answered_in answer_number event_refusal event_step event_sheet session_refusal open_refusal open_answer defaults_written line_reach lines_reach table_reach component_places fields_among fields_of open_sheet ◌before◌ ◌unless◌ step_in sheet_in pressed next_editable moved_to moved_on followed followed_sheet visit_step visit_sheet right_to last_digit digit_step entry_step first_for up_step down_step left_step descended right_step first_editable enter_at enter_step browse_step later delay_over browse_second shape_fits cursor_head level_fits levels_fit tables_fit is_in work_fits visit_fits digits_to entry_fits mode_fits session_fits opened closed when◌then◌else◌ ◌and◌ word_at room put_at fit digits_of number_from low_first from_low format_of signs_of digits_in base_of limit_of half_of top_of profile_of cell_of open_day held_to number_of value_from spans distance in_digits shown_by minus storable of_digits cells_of stored_in in_span stores within all_within legal in_range work_of started finished digit_count counted_cells step_fits width_fits kind_fits settings_fit default_written begun finished_in key.raised key.lowered key.up_key key.down_key key.left_key key.right_key key.on_right key.digit_key key.part_after key.capped key.enter_key image_of texts_from all_digits password_fits title_by title_at head_by head_at fixed_bytes text_count given kind_at default_place sheet_place_at laid_out component_by component_at lines_from lines_of components_from components_of line_from line_at line_count fine and_then padded take_title agrees line_placed count_line take_line in_sheet apart_from take_field take_component on_component on_components on_head on_title on_submenu on_body on_line on_lines on_table walked prolog_refusal checked refusal_of
 starred_as_listed = refl
 
 -- and every other
 further_as_listed : AsListed further
-unfolding further begun_with next answer_to played answered_in answer_number event_refusal event_step event_sheet session_refusal open_refusal open_answer defaults_written line_reach lines_reach table_reach component_places fields_among fields_of open_sheet ◌before◌ ◌unless◌ step_in sheet_in pressed next_editable moved_to moved_on followed followed_sheet visit_step visit_sheet right_to last_digit digit_step entry_step first_for up_step down_step left_step descended right_step first_editable enter_at enter_step browse_step later delay_over browse_second shape_fits cursor_head level_fits levels_fit tables_fit is_in work_fits visit_fits digits_to entry_fits mode_fits session_fits opened closed when◌then◌else◌ ◌and◌ word_at room put_at fit digits_of number_from low_first from_low format_of signs_of digits_in base_of limit_of half_of top_of profile_of cell_of open_day held_to number_of value_from spans distance in_digits shown_by minus storable of_digits cells_of stored_in in_span stores within all_within legal in_range work_of started finished digit_count counted_cells step_fits width_fits kind_fits settings_fit default_written begun finished_in key.raised key.lowered key.up_key key.down_key key.left_key key.right_key key.on_right key.digit_key key.part_after key.capped key.enter_key image_of texts_from all_digits password_fits title_by title_at head_by head_at fixed_bytes text_count given kind_at default_place sheet_place_at laid_out component_by component_at lines_from lines_of components_from components_of line_from line_at line_count fine and_then padded take_title agrees line_placed count_line take_line in_sheet apart_from take_field take_component on_component on_components on_head on_title on_submenu on_body on_line on_lines on_table walked prolog_code checked refusal_of
+unfolding further begun_with next answer_to played answered_in answer_number event_refusal event_step event_sheet session_refusal open_refusal open_answer defaults_written line_reach lines_reach table_reach component_places fields_among fields_of open_sheet ◌before◌ ◌unless◌ step_in sheet_in pressed next_editable moved_to moved_on followed followed_sheet visit_step visit_sheet right_to last_digit digit_step entry_step first_for up_step down_step left_step descended right_step first_editable enter_at enter_step browse_step later delay_over browse_second shape_fits cursor_head level_fits levels_fit tables_fit is_in work_fits visit_fits digits_to entry_fits mode_fits session_fits opened closed when◌then◌else◌ ◌and◌ word_at room put_at fit digits_of number_from low_first from_low format_of signs_of digits_in base_of limit_of half_of top_of profile_of cell_of open_day held_to number_of value_from spans distance in_digits shown_by minus storable of_digits cells_of stored_in in_span stores within all_within legal in_range work_of started finished digit_count counted_cells step_fits width_fits kind_fits settings_fit default_written begun finished_in key.raised key.lowered key.up_key key.down_key key.left_key key.right_key key.on_right key.digit_key key.part_after key.capped key.enter_key image_of texts_from all_digits password_fits title_by title_at head_by head_at fixed_bytes text_count given kind_at default_place sheet_place_at laid_out component_by component_at lines_from lines_of components_from components_of line_from line_at line_count fine and_then padded take_title agrees line_placed count_line take_line in_sheet apart_from take_field take_component on_component on_components on_head on_title on_submenu on_body on_line on_lines on_table walked prolog_refusal checked refusal_of
 further_as_listed = refl

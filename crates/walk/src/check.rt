@@ -9,34 +9,37 @@ ghost use Rattle.acceptance.specs.Clean.{StaysClean};
 
 use acceptance::index::{Entry, apart_from, set_entry};
 use acceptance::progress::Progress;
-use acceptance::shared::{is_padded, prolog_code};
+use acceptance::shared::{is_padded, prolog_refusal};
 use cmf::component::{Component, read_component};
 use cmf::head::{Head, back_at, is_first, read_head};
 use cmf::image::Image;
+use cmf::refusal::Refusal;
 use cmf::title::{Title, read_title};
 use laws::has_triple;
 
 // The numbers of an index: three for each field that there may be.
 const INDEX: usize = 3 * Image::MAX_FIELDS;
 
-// What a check found: how far the walk came and its refusal number, and the fields that it reached, three
-// numbers to a field.
+// What a check found: how far the walk came and its refusal, and the fields that it reached, three numbers to
+// a field.
 #[derive(Drop)]
 pub struct Checked {
     pub progress: Progress,
     pub index: [usize; INDEX],
 }
 
+#[tactic(auto, using(laws::proofs::Cases::choices), unfolding(acceptance::specs::Check::take_title))]
 fn take_title(t: Title, w: Progress) -> Progress
     ensures { result ≡ take_title t w }
 {
-    if t.refusal == 0 {
-        return w.read_to(t.end);
+    match t.refusal {
+        None => w.read_to(t.end),
+        Some(refusal) => w.refused(refusal),
     }
-    w.refused(t.refusal)
 }
 
 // Whether a line's first mark and pointer back agree with the walk; n lines of its table come before it.
+#[tactic(auto, using(laws::proofs::Cases::choices), unfolding(acceptance::specs::Check::agrees))]
 fn is_agreeing(image: &[u8], n: usize, before: usize, p: usize) -> bool
     ensures { result ≡ agrees image.now n before p }
 {
@@ -44,90 +47,70 @@ fn is_agreeing(image: &[u8], n: usize, before: usize, p: usize) -> bool
     if n == 0 {
         return first;
     }
-    if first {
-        return false;
-    }
-    if before <= p {
-        return back_at(image, p) == p - before;
-    }
-    false
+    !first && before <= p && back_at(image, p) == p - before
 }
 
+#[tactic(auto, using(laws::proofs::Cases::choices), unfolding(acceptance::specs::Check::line_placed))]
 fn is_placed(image: &[u8], n: usize, before: usize, p: usize, w: Progress) -> bool
     ensures { result ≡ line_placed image.now n before p w }
 {
-    let at = w.at;
-    if p == at + (1 - at % 2) {
-        let zero = is_padded(image, at, p);
-        if zero {
-            return is_agreeing(image, n, before, p);
-        }
-        return false;
-    }
-    false
+    p == w.at + (1 - w.at % 2) && is_padded(image, w.at, p) && is_agreeing(image, n, before, p)
 }
 
+#[tactic(auto, using(laws::proofs::Cases::choices), unfolding(acceptance::specs::Check::count_line))]
 fn count_line(n: usize, h: Head, w: Progress) -> Progress
     ensures { result ≡ count_line n h w }
 {
-    if Image::MAX_TABLE_LINES <= n {
-        return w.refused(8);
+    if Image::MAX_TABLE_LINES <= n || Image::MAX_LINES <= w.lines {
+        return w.refused(Refusal::Limit);
     }
-    if Image::MAX_LINES <= w.lines {
-        return w.refused(8);
+    if !h.typeable {
+        return w.refused(Refusal::Setting);
     }
-    if h.typeable {
-        return Progress {
-            refusal: 0,
-            at: h.end,
-            lines: w.lines + 1,
-            fields: w.fields,
-        };
+    Progress {
+        refusal: None,
+        at: h.end,
+        lines: w.lines + 1,
+        fields: w.fields,
     }
-    w.refused(9)
 }
 
 // A line's head at p.
+#[tactic(auto, using(laws::proofs::Cases::choices), unfolding(acceptance::specs::Check::take_line))]
 fn take_line(image: &[u8], n: usize, before: usize, p: usize, h: Head, w: Progress) -> Progress
     ensures { result ≡ take_line image.now n before p h w }
 {
-    if h.refusal == 0 {
-        let placed = is_placed(image, n, before, p, w);
-        if placed {
-            return count_line(n, h, w);
-        }
-        return w.refused(7);
+    match h.refusal {
+        Some(refusal) => w.refused(refusal),
+        None if is_placed(image, n, before, p, w) => count_line(n, h, w),
+        None => w.refused(Refusal::Form),
     }
-    w.refused(h.refusal)
 }
 
 // A field: counted, its settings, its bytes in the sheet.
+#[tactic(auto, using(laws::proofs::Cases::choices), unfolding(acceptance::specs::Check::take_field))]
 fn take_field(extent: usize, c: Component, w: Progress, index: &mut [usize]) -> Progress
     ensures index_after { seen result index.new
         ≡ take_field extent (capacity index.old) c (seen w index.old) }
     ensures stays_clean { StaysClean w.fields index.old result.fields index.new }
 {
     let k = w.fields;
-    let field = c.field;
-    let entry = Entry::of_field(field);
-    let room = has_triple(index.len(), k);
-    if !room {
-        return w.refused(8);
+    let entry = Entry::of_field(c.field);
+    if !has_triple(index.len(), k) {
+        return w.refused(Refusal::Limit);
     }
-    if c.refusal != 0 {
-        return w.refused(c.refusal);
+    if let Some(refusal) = c.refusal {
+        return w.refused(refusal);
     }
-    let inside = entry.in_sheet(extent);
-    if !inside {
-        return w.refused(10);
+    if !entry.in_sheet(extent) {
+        return w.refused(Refusal::Sheet);
     }
-    let alone = apart_from(entry, index, k);
-    if !alone {
-        return w.refused(11);
+    if !apart_from(entry, index, k) {
+        return w.refused(Refusal::Overlap);
     }
-    set_entry(&mut *index, k, entry);
+    set_entry(index, k, entry);
     Progress {
-        refusal: 0,
+        refusal: None,
         at: c.end,
         lines: w.lines,
         fields: k + 1,
@@ -135,6 +118,7 @@ fn take_field(extent: usize, c: Component, w: Progress, index: &mut [usize]) -> 
 }
 
 // A component at p.
+#[tactic(auto, using(laws::proofs::Cases::choices), unfolding(acceptance::specs::Check::take_component))]
 fn take_component(
     image: &[u8],
     extent: usize,
@@ -148,20 +132,19 @@ fn take_component(
         (seen w index.old) }
     ensures stays_clean { StaysClean w.fields index.old result.fields index.new }
 {
-    if c.refusal == 6 {
-        return w.refused(6);
+    if matches!(c.refusal, Some(Refusal::Cut)) {
+        return w.refused(Refusal::Cut);
     }
-    let zero = is_padded(image, w.at, p);
-    if !zero {
-        return w.refused(7);
+    if !is_padded(image, w.at, p) {
+        return w.refused(Refusal::Form);
     }
     if c.fielded {
         return take_field(extent, c, w, index);
     }
-    if c.refusal != 0 {
-        return w.refused(c.refusal);
+    match c.refusal {
+        None => w.read_to(c.end),
+        Some(refusal) => w.refused(refusal),
     }
-    w.read_to(c.end)
 }
 
 // The components of a line, the first of them at p.
@@ -180,18 +163,13 @@ fn check_components(
 {
     let mut v = w;
     let mut c = p;
-    let mut left = image.len() + 1;
-    while 0 < left {
+    for _ in 0..image.len() + 1 {
         let component = read_component(image, c);
-        v = take_component(image, extent, c, component, v, &mut *index);
-        if v.refusal != 0 {
-            return v;
-        }
-        if component.last {
+        v = take_component(image, extent, c, component, v, index);
+        if v.refusal.is_some() || component.last {
             return v;
         }
         c = component.next.0;
-        left = left - 1;
     }
     v
 }
@@ -216,15 +194,15 @@ fn check_line(
 {
     let h = read_head(image, p);
     let v = take_line(image, n, before, p, h, w);
-    if v.refusal != 0 {
+    if v.refusal.is_some() {
         return v;
     }
-    let q = check_components(image, extent, h.component.0, v, &mut *index);
-    if q.refusal != 0 {
+    let q = check_components(image, extent, h.component.0, v, index);
+    if q.refusal.is_some() {
         return q;
     }
     if h.submenu {
-        let t = check_table(image, extent, below, h.table.0, q, &mut *index);
+        let t = check_table(image, extent, below, h.table.0, q, index);
         return t.past_line(q.at);
     }
     q
@@ -247,19 +225,18 @@ fn check_table(
 {
     let t = read_title(image, at);
     let mut v = take_title(t, w);
-    if v.refusal != 0 {
+    if v.refusal.is_some() {
         return v;
     }
     if left == 0 {
-        return v.refused(8);
+        return v.refused(Refusal::Limit);
     }
     let below = left - 1;
-    let mut n = 0;
     let mut before = 0;
     let mut p = t.line.0;
-    while n < Image::MAX_TABLE_LINES + 1 {
-        v = check_line(image, extent, below, n, before, p, v, &mut *index);
-        if v.refusal != 0 {
+    for n in 0..Image::MAX_TABLE_LINES + 1 {
+        v = check_line(image, extent, below, n, before, p, v, index);
+        if v.refusal.is_some() {
             return v;
         }
         let h = read_head(image, p);
@@ -268,12 +245,11 @@ fn check_table(
         }
         before = p;
         p = h.next.0;
-        n = n + 1;
     }
     v
 }
 
-// The refusal number of an image for a sheet of so many bytes, 0 for none, and the fields that were reached,
+// The refusal of an image for a sheet of so many bytes, if there is one, and the fields that were reached,
 // with zeros after them.
 pub fn check(image: &[u8], extent: usize) -> Checked
     ensures progress_value { result.progress ≡ (checked image.now extent).progress }
@@ -281,25 +257,21 @@ pub fn check(image: &[u8], extent: usize) -> Checked
 {
     let mut index = [0usize; INDEX];
     let start = Progress {
-        refusal: 0,
+        refusal: None,
         at: 0,
         lines: 0,
         fields: 0,
     };
-    let code = prolog_code(image);
-    if code != 0 {
-        return Checked {
-            progress: start.refused(code),
-            index,
-        };
-    }
-    let progress = check_table(
-        image,
-        extent,
-        Image::MAX_DEPTH,
-        Image::PROLOG,
-        start,
-        &mut index,
-    );
+    let progress = match prolog_refusal(image) {
+        Some(refusal) => start.refused(refusal),
+        None => check_table(
+            image,
+            extent,
+            Image::MAX_DEPTH,
+            Image::PROLOG,
+            start,
+            &mut index,
+        ),
+    };
     Checked { progress, index }
 }

@@ -2,18 +2,19 @@
 use native.Mathlib.Omega.{arith}
 use Prim.Native.Nat.{ℕ, ◌/◌}
 use mathlib.Core.Path.{refl, sym, ap, ◌∙◌}
+use Rattle.cmf.proofs.Numbers.{refused_number, unrefused_number}
 use Rattle.acceptance.proofs.Indexed.{clean_head, clean_title}
 use Rattle.acceptance.proofs.CodeSteps.{line_stop, line_bad, line_plain, line_deep, lines_stop, lines_last, lines_next, lines_done, table_stop, table_deep, table_lines}
 use Rattle.walk.proofs.check.+check_line_check_table.Goals as goal
 
-pub check_line-returns-then-v-ne0 : goal.check_line-returns-then-v-ne0
-check_line-returns-then-v-ne0 t c = record { index_after = line_stop _ _ _ _ _ _ _ _ _ _ _ c.read_head-h.ensures c.take_line-v.ensures c.if-v-ne0.true; stays_clean = λ h. clean_head _ _ _ _ _ _ _ c.take_line-v.ensures h }
+pub check_line-returns-then-is_some : goal.check_line-returns-then-is_some
+check_line-returns-then-is_some t c = record { index_after = line_stop _ _ _ _ _ _ _ _ _ _ _ c.read_head-h.ensures c.take_line-v.ensures (refused_number _ c.is_some.ensures c.if-is_some.true); stays_clean = λ h. clean_head _ _ _ _ _ _ _ c.take_line-v.ensures h }
 
-pub check_line-shape_of-index-then-q-ne0 : goal.check_line-shape_of-index-then-q-ne0
-check_line-shape_of-index-then-q-ne0 t c = c.check_components-q.auto.index
+pub check_line-shape_of-index-then-is_some-2 : goal.check_line-shape_of-index-then-is_some-2
+check_line-shape_of-index-then-is_some-2 t c = c.check_components-q.auto.index
 
-pub check_line-returns-then-q-ne0 : goal.check_line-returns-then-q-ne0
-check_line-returns-then-q-ne0 t c = record { index_after = line_bad _ _ _ _ _ _ _ _ _ _ _ c.read_head-h.ensures c.take_line-v.ensures c.if-v-ne0.false _ c.check_components-q.ensures.index_after c.if-q-ne0.true; stays_clean = λ h. c.check_components-q.ensures.stays_clean (clean_head _ _ _ _ _ _ _ c.take_line-v.ensures h) }
+pub check_line-returns-then-is_some-2 : goal.check_line-returns-then-is_some-2
+check_line-returns-then-is_some-2 t c = record { index_after = line_bad _ _ _ _ _ _ _ _ _ _ _ c.read_head-h.ensures c.take_line-v.ensures (unrefused_number _ c.is_some.ensures c.if-is_some.false) _ c.check_components-q.ensures.index_after (refused_number _ c.is_some-2.ensures c.if-is_some-2.true); stays_clean = λ h. c.check_components-q.ensures.stays_clean (clean_head _ _ _ _ _ _ _ c.take_line-v.ensures h) }
 
 pub check_line-check_table-t-requires : goal.check_line-check_table-t-requires
 check_line-check_table-t-requires t c = (omega arith, tt)
@@ -22,19 +23,19 @@ pub check_line-shape_of-index-then-h : goal.check_line-shape_of-index-then-h
 check_line-shape_of-index-then-h t c = c.check_table-t.auto.index ∙ c.check_components-q.auto.index
 
 pub check_line-returns-then-h : goal.check_line-returns-then-h
-check_line-returns-then-h t c = record { index_after = line_deep _ _ _ _ _ _ _ _ _ _ _ c.read_head-h.ensures c.take_line-v.ensures c.if-v-ne0.false _ c.check_components-q.ensures.index_after _ _ _ _ (ap (λ (n : ℕ). n / 3) c.check_components-q.auto.index) c.if-q-ne0.false c.if-h.true c.check_table-t.ensures.index_after c.past_line.ensures; stays_clean = λ h. rw c.past_line.ensures (c.check_table-t.ensures.stays_clean (c.check_components-q.ensures.stays_clean (clean_head _ _ _ _ _ _ _ c.take_line-v.ensures h))) }
+check_line-returns-then-h t c = record { index_after = line_deep _ _ _ _ _ _ _ _ _ _ _ c.read_head-h.ensures c.take_line-v.ensures (unrefused_number _ c.is_some.ensures c.if-is_some.false) _ c.check_components-q.ensures.index_after _ _ _ _ (ap (λ (n : ℕ). n / 3) c.check_components-q.auto.index) (unrefused_number _ c.is_some-2.ensures c.if-is_some-2.false) c.if-h.true c.check_table-t.ensures.index_after c.past_line.ensures; stays_clean = λ h. rw c.past_line.ensures (c.check_table-t.ensures.stays_clean (c.check_components-q.ensures.stays_clean (clean_head _ _ _ _ _ _ _ c.take_line-v.ensures h))) }
 
 pub check_line-shape_of-index : goal.check_line-shape_of-index
 check_line-shape_of-index t c = c.check_components-q.auto.index
 
 pub check_line-returns : goal.check_line-returns
-check_line-returns t c = record { index_after = line_plain _ _ _ _ _ _ _ _ _ _ _ c.read_head-h.ensures c.take_line-v.ensures c.if-v-ne0.false _ c.check_components-q.ensures.index_after c.if-q-ne0.false c.if-h.false; stays_clean = λ h. c.check_components-q.ensures.stays_clean (clean_head _ _ _ _ _ _ _ c.take_line-v.ensures h) }
+check_line-returns t c = record { index_after = line_plain _ _ _ _ _ _ _ _ _ _ _ c.read_head-h.ensures c.take_line-v.ensures (unrefused_number _ c.is_some.ensures c.if-is_some.false) _ c.check_components-q.ensures.index_after (unrefused_number _ c.is_some-2.ensures c.if-is_some-2.false) c.if-h.false; stays_clean = λ h. c.check_components-q.ensures.stays_clean (clean_head _ _ _ _ _ _ _ c.take_line-v.ensures h) }
 
-pub check_table-returns-then-v-ne0 : goal.check_table-returns-then-v-ne0
-check_table-returns-then-v-ne0 t c = record { index_after = table_stop _ _ _ _ _ _ _ _ _ c.read_title-t.ensures c.take_title-v.ensures c.if-v-ne0.true; stays_clean = λ h. clean_title _ _ _ c.take_title-v.ensures h }
+pub check_table-returns-then-is_some : goal.check_table-returns-then-is_some
+check_table-returns-then-is_some t c = record { index_after = table_stop _ _ _ _ _ _ _ _ _ c.read_title-t.ensures c.take_title-v.ensures (refused_number _ c.is_some.ensures c.if-is_some.true); stays_clean = λ h. clean_title _ _ _ c.take_title-v.ensures h }
 
 pub check_table-returns-then-left-eq0 : goal.check_table-returns-then-left-eq0
-check_table-returns-then-left-eq0 t c = record { index_after = table_deep _ _ _ _ _ _ _ _ _ c.read_title-t.ensures c.take_title-v.ensures _ c.if-v-ne0.false c.if-left-eq0.true c.refused.ensures; stays_clean = λ h. rw c.refused.ensures (clean_title _ _ _ c.take_title-v.ensures h) }
+check_table-returns-then-left-eq0 t c = record { index_after = table_deep _ _ _ _ _ _ _ _ _ c.read_title-t.ensures c.take_title-v.ensures _ (unrefused_number _ c.is_some.ensures c.if-is_some.false) c.if-left-eq0.true c.refused.ensures; stays_clean = λ h. rw c.refused.ensures (clean_title _ _ _ c.take_title-v.ensures h) }
 
 pub check_table-loop-n-init : goal.check_table-loop-n-init
 check_table-loop-n-init t c = (refl, refl, λ h. h)
@@ -42,23 +43,23 @@ check_table-loop-n-init t c = (refl, refl, λ h. h)
 pub check_table-check_line-v-requires : goal.check_table-check_line-v-requires
 check_table-check_line-v-requires t c = (omega arith, tt)
 
-pub check_table-shape_of-index-then-v-ne0-2 : goal.check_table-shape_of-index-then-v-ne0-2
-check_table-shape_of-index-then-v-ne0-2 t c = c.check_line-v.auto.index ∙ c.loop-n.invariant.1
+pub check_table-shape_of-index-then-is_some-2 : goal.check_table-shape_of-index-then-is_some-2
+check_table-shape_of-index-then-is_some-2 t c = c.check_line-v.auto.index ∙ c.loop-n.invariant.1
 
-pub check_table-returns-then-v-ne0-2 : goal.check_table-returns-then-v-ne0-2
-check_table-returns-then-v-ne0-2 t c = record { index_after = sym (table_lines _ _ _ _ _ _ _ _ _ c.read_title-t.ensures c.take_title-v.ensures c.if-v-ne0.false c.if-left-eq0.false ∙ c.loop-n.invariant.0 ∙ lines_stop _ _ _ _ _ _ _ _ _ _ c.loop-n-test.true (ap (λ (n : ℕ). n / 3) c.loop-n.invariant.1) c.check_line-v.ensures.index_after c.if-v-ne0-2.true); stays_clean = λ h. c.check_line-v.ensures.stays_clean (c.loop-n.invariant.2 (clean_title _ _ _ c.take_title-v.ensures h)) }
+pub check_table-returns-then-is_some-2 : goal.check_table-returns-then-is_some-2
+check_table-returns-then-is_some-2 t c = record { index_after = sym (table_lines _ _ _ _ _ _ _ _ _ c.read_title-t.ensures c.take_title-v.ensures (unrefused_number _ c.is_some.ensures c.if-is_some.false) c.if-left-eq0.false ∙ c.loop-n.invariant.0 ∙ lines_stop _ _ _ _ _ _ _ _ _ _ c.loop-n-test.true (ap (λ (n : ℕ). n / 3) c.loop-n.invariant.1) c.check_line-v.ensures.index_after (refused_number _ c.is_some-in-loop-n.ensures c.if-is_some-2.true)); stays_clean = λ h. c.check_line-v.ensures.stays_clean (c.loop-n.invariant.2 (clean_title _ _ _ c.take_title-v.ensures h)) }
 
 pub check_table-shape_of-index-then-h : goal.check_table-shape_of-index-then-h
 check_table-shape_of-index-then-h t c = c.check_line-v.auto.index ∙ c.loop-n.invariant.1
 
 pub check_table-returns-then-h : goal.check_table-returns-then-h
-check_table-returns-then-h t c = record { index_after = sym (table_lines _ _ _ _ _ _ _ _ _ c.read_title-t.ensures c.take_title-v.ensures c.if-v-ne0.false c.if-left-eq0.false ∙ c.loop-n.invariant.0 ∙ lines_last _ _ _ _ _ _ _ _ _ _ c.loop-n-test.true (ap (λ (n : ℕ). n / 3) c.loop-n.invariant.1) c.check_line-v.ensures.index_after _ c.read_head-h.ensures c.if-v-ne0-2.false c.if-h.true); stays_clean = λ h. c.check_line-v.ensures.stays_clean (c.loop-n.invariant.2 (clean_title _ _ _ c.take_title-v.ensures h)) }
+check_table-returns-then-h t c = record { index_after = sym (table_lines _ _ _ _ _ _ _ _ _ c.read_title-t.ensures c.take_title-v.ensures (unrefused_number _ c.is_some.ensures c.if-is_some.false) c.if-left-eq0.false ∙ c.loop-n.invariant.0 ∙ lines_last _ _ _ _ _ _ _ _ _ _ c.loop-n-test.true (ap (λ (n : ℕ). n / 3) c.loop-n.invariant.1) c.check_line-v.ensures.index_after _ c.read_head-h.ensures (unrefused_number _ c.is_some-in-loop-n.ensures c.if-is_some-2.false) c.if-h.true); stays_clean = λ h. c.check_line-v.ensures.stays_clean (c.loop-n.invariant.2 (clean_title _ _ _ c.take_title-v.ensures h)) }
 
 pub check_table-loop-n-preserved : goal.check_table-loop-n-preserved
-check_table-loop-n-preserved t c = (c.loop-n.invariant.0 ∙ lines_next _ _ _ _ _ _ _ _ _ _ c.loop-n-test.true (ap (λ (n : ℕ). n / 3) c.loop-n.invariant.1) c.check_line-v.ensures.index_after _ c.read_head-h.ensures c.if-v-ne0-2.false c.if-h.false, c.check_line-v.auto.index ∙ c.loop-n.invariant.1, λ h. c.check_line-v.ensures.stays_clean (c.loop-n.invariant.2 h))
+check_table-loop-n-preserved t c = (c.loop-n.invariant.0 ∙ lines_next _ _ _ _ _ _ _ _ _ _ c.loop-n-test.true (ap (λ (n : ℕ). n / 3) c.loop-n.invariant.1) c.check_line-v.ensures.index_after _ c.read_head-h.ensures (unrefused_number _ c.is_some-in-loop-n.ensures c.if-is_some-2.false) c.if-h.false, c.check_line-v.auto.index ∙ c.loop-n.invariant.1, λ h. c.check_line-v.ensures.stays_clean (c.loop-n.invariant.2 h))
 
 pub check_table-shape_of-index : goal.check_table-shape_of-index
 check_table-shape_of-index t c = c.loop-n.invariant.1
 
 pub check_table-returns : goal.check_table-returns
-check_table-returns t c = record { index_after = sym (table_lines _ _ _ _ _ _ _ _ _ c.read_title-t.ensures c.take_title-v.ensures c.if-v-ne0.false c.if-left-eq0.false ∙ c.loop-n.invariant.0 ∙ lines_done _ _ _ _ _ _ _ _ c.loop-n-test.false); stays_clean = λ h. c.loop-n.invariant.2 (clean_title _ _ _ c.take_title-v.ensures h) }
+check_table-returns t c = record { index_after = sym (table_lines _ _ _ _ _ _ _ _ _ c.read_title-t.ensures c.take_title-v.ensures (unrefused_number _ c.is_some.ensures c.if-is_some.false) c.if-left-eq0.false ∙ c.loop-n.invariant.0 ∙ lines_done _ _ _ _ _ _ _ _ c.loop-n-test.false); stays_clean = λ h. c.loop-n.invariant.2 (clean_title _ _ _ c.take_title-v.ensures h) }
