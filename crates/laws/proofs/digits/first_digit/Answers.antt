@@ -1,4 +1,4 @@
--- What has been subtracted and what is left make up the number; the measure is the subtractions to come.
+-- What has been subtracted and what is left make up the number.
 use native.Mathlib.Omega.{arith}
 use Prim.Native.Nat.{ℕ, ◌+◌, ◌-◌, ◌*◌, ◌/◌, ◌^◌, ◌≤◌, ◌<◌, min}
 use mathlib.Core.Path.{◌≡◌}
@@ -24,7 +24,7 @@ loop-digit-init c = let n = c.args.n in
     let few : min (n - 1) 9 ≡ n - 1 = omega arith in
     let power : c.power_of_ten-power.result ≡ 10 ^ (n - 1) = rw few at c.power_of_ten-power.ensures in
     let pos : 0 < 10 ^ (n - 1) = one-le-pow (n - 1) 10 (omega arith) in
-    (power, rw power pos, omega arith, omega arith)
+    (power, rw power pos, omega arith)
 
 pub returns-then-rest-power : goal.returns-then-rest-power
 returns-then-rest-power c = let l = c.loop-digit in
@@ -33,9 +33,11 @@ returns-then-rest-power c = let l = c.loop-digit in
 
 pub loop-digit-preserved : goal.loop-digit-preserved
 loop-digit-preserved c = let i = c.loop-digit.invariant in
-    (i.0, i.1, omega arith, omega arith)
+    (i.0, i.1, omega arith)
 
 pub returns : goal.returns
 returns c = let l = c.loop-digit in
     let i = l.invariant in
-    rw (← i.0) (omega (arith, quotient l.digit l.rest i.1 i.2), omega (arith, i.2))
+    let nine : l.digit ≡ 9 = omega arith in
+    let sum : 9 * c.power_of_ten-power.result + l.rest ≡ c.args.x = rw nine at i.2 in
+    rw (← i.0) (omega (arith, quotient 9 l.rest i.1 sum), omega (arith, sum))
