@@ -1,7 +1,7 @@
 -- What is left has the year's place in the cycle, and is below the next span's double.
 use native.Mathlib.Omega.{arith}
 use Prim.Native.Nat.{ℕ, zero, suc, ◌-◌, ◌*◌, ◌%◌, ◌^◌, ◌≤◌, ◌<◌}
-use mathlib.Core.Path.{◌≡◌, refl}
+use mathlib.Core.Path.{◌≡◌}
 use native.Mathlib.Nat.{pow-suc, pow-le-pow_right, mod-eq_of_lt}
 use Rattle.field.proofs.calendar.in_cycle.Goals as goal
 
@@ -16,17 +16,8 @@ span_is n h =
     let p : 2 ^ n ≤ 2 ^ 23 = pow-le-pow_right (omega arith) {i = n} {j = 23} h in
     mod-eq_of_lt (omega arith)
 
-pub loop-turn-init : goal.loop-turn-init
-loop-turn-init c = (omega arith, refl)
-
 pub loop-turn-preserved-then-span-rest : goal.loop-turn-preserved-then-span-rest
 loop-turn-preserved-then-span-rest c = let n = c.loop-turn.turn in
     let h = halved n (omega arith) in
     let s = span_is (n - 1) (omega arith) in
     rw s (omega arith, omega arith)
-
-pub loop-turn-preserved : goal.loop-turn-preserved
-loop-turn-preserved c = let s = span_is (c.loop-turn.turn - 1) (omega arith) in (omega arith, c.loop-turn.invariant.1)
-
-pub returns : goal.returns
-returns c = let z : c.loop-turn.turn ≡ 0 = omega arith in omega (arith, rw z at c.loop-turn.invariant)

@@ -2,11 +2,10 @@
 use borrow.Author.Rules.{rules}
 use native.Mathlib.Omega.{arith}
 use Prim.Native.Nat.{ℕ, ◌+◌, ◌-◌, ◌≤◌, ◌<◌}
-use mathlib.Core.Path.{◌≡◌, refl, ◌∙◌}
+use mathlib.Core.Path.{◌≡◌, refl}
 use mathlib.Core.List.{List}
 use native.Mathlib.Nat.{pow-zero, zero-add}
 use lib.ListN.{length, take, drop, get_or, length-take, length-drop}
-use lib.Seq.{take_all}
 use mir.Val.{Fits}
 use mir.Syntax.{w32}
 use Rattle.laws.specs.Digits.{number_from}
@@ -44,10 +43,3 @@ loop-cell-preserved c = let l = c.loop-cell in
     let d : Fits w32 (get_or p l.cell-index 0) = search rules in
     let turn = rw zero-add at (number_turn a.base 0 l.cell-index p (omega (arith, c.loop-cell-test.true))) in
     (rw l.invariant.0 turn, number_bound l.n a.base (get_or p l.cell-index 0) l.cell-index l.invariant.1 c.requires.0 d.fits)
-
-pub returns : goal.returns
-returns c = let l = c.loop-cell in
-    let a = c.args in
-    let e : a.start + a.count - a.start ≡ a.count = omega arith in
-    let p = take (a.start + a.count - a.start) (drop a.start a.w.cells) in
-    l.invariant.0 ∙ rw (take_all l.cell-index p c.loop-cell-test.false, e)

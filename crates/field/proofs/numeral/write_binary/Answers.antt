@@ -6,12 +6,6 @@ use Rattle.laws.proofs.Overwriting.{over_nil}
 use Rattle.laws.proofs.Numerals.{digits_turn}
 use Rattle.field.proofs.numeral.write_binary.Goals as goal
 
-pub lowest-requires : goal.lowest-requires
-lowest-requires c = c.requires.0
-
-pub before_lowest-rest-requires : goal.before_lowest-rest-requires
-before_lowest-rest-requires c = c.requires.0
-
 pub loop-left-preserved : goal.loop-left-preserved
 loop-left-preserved c = let l = c.loop-left in
     rw (c.lowest.ensures, c.before_lowest-rest.ensures) (digits_turn _ _ l.left l.rest l.cells c.loop-left-test.true (omega arith)) ∙ l.invariant

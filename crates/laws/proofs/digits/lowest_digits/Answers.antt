@@ -1,20 +1,11 @@
 -- What is left agrees with the number in its n lowest digits, and has no more digits than are still counted.
 use native.Mathlib.Omega.{arith}
 use Prim.Native.Nat.{◌+◌, ◌-◌, ◌*◌, ◌^◌, ◌≤◌, ◌<◌}
-use mathlib.Core.Path.{◌≡◌, refl, sym, ◌∙◌}
+use mathlib.Core.Path.{◌≡◌, sym, ◌∙◌}
 use native.Mathlib.Nat.{pow-le-pow_right, mod-eq_of_lt, mod-mod_of_dvd, dvd-mul_right}
 use lib.Pow.{pow-add}
-use borrow.Author.Tests.{ltb-true}
 use Rattle.laws.proofs.Subtracting.{rest_is, rest_below}
 use Rattle.laws.proofs.digits.lowest_digits.Goals as goal
-
-pub returns-then-is_shown : goal.returns-then-is_shown
-returns-then-is_shown c = let a = c.args in
-    let p : a.x < 10 ^ a.n = ltb-true a.x (10 ^ a.n) (sym c.is_shown.ensures ∙ c.if-is_shown.true) in
-    sym (mod-eq_of_lt p)
-
-pub loop-others-init : goal.loop-others-init
-loop-others-init c = (refl, omega arith)
 
 pub loop-others-preserved : goal.loop-others-preserved
 loop-others-preserved c = let l = c.loop-others in
