@@ -1,6 +1,7 @@
 -- The calendar: what its definitions come to, by computation where a reader would count, and by the remainders elsewhere.
 use Prim.Native.Nat.{ℕ, zero, suc, ◌+◌, ◌-◌, ◌*◌, ◌/◌, ◌%◌, ◌≤◌, ◌<◌}
 use mathlib.Core.Path.{◌≡◌, refl, sym, ◌∙◌}
+use mathlib.Core.Logic.{◌⊎◌, inl, inr}
 use mathlib.Core.Bool.{Bool, true, false}
 use mathlib.Core.List.{[], ◌∷◌, map}
 use native.Mathlib.Omega.{arith}
@@ -55,20 +56,41 @@ pub end_least : (y m : ℕ) → 28 ≤ month_end y m
 unfolding month_end
 end_least y m = if_min _ (if_min _ (lit≤ tt) (lit≤ tt)) (if_min _ (lit≤ tt) (if_min _ (lit≤ tt) (if_min _ (lit≤ tt) (if_min _ (lit≤ tt) (lit≤ tt)))))
 
+-- the months of 30 days, and those of 31
+pub end_short : (y m : ℕ) → (m ≡ 4) ⊎ ((m ≡ 6) ⊎ ((m ≡ 9) ⊎ (m ≡ 11))) → 30 ≡ month_end y m
+unfolding month_end when◌then◌else◌
+end_short y m (inl e) = rw e
+end_short y m (inr (inl e)) = rw e
+end_short y m (inr (inr (inl e))) = rw e
+end_short y m (inr (inr (inr e))) = rw e
+
+pub end_long : (y m : ℕ) → (m ≡ 2 → ⊥) → ((m ≡ 4) ⊎ ((m ≡ 6) ⊎ ((m ≡ 9) ⊎ (m ≡ 11))) → ⊥) → 31 ≡ month_end y m
+unfolding month_end
+end_long y m a b =
+    sym (if_ne m 2 _ _ a ∙ if_ne m 4 _ _ (λ e. b (inl e)) ∙ if_ne m 6 _ _ (λ e. b (inr (inl e))) ∙ if_ne m 9 _ _ (λ e. b (inr (inr (inl e)))) ∙ if_ne m 11 _ _ (λ e. b (inr (inr (inr e)))))
+
 -- a year that 4 does not divide is no leap year, and of those that it divides three in 400 are none
 pub leap_not_fourth : (y : ℕ) → (y % 4 ≡ 0 → ⊥) → false ≡ leap_year y
 unfolding leap_year
 leap_not_fourth y h = sym (if_ne (y % 100) 0 _ _ (λ e. h (omega arith)) ∙ ne_eqb (y % 4) 0 h)
 
-pub leap_not_hundred : (y : ℕ) → y % 100 ≡ 0 → (y % 400 ≡ 0 → ⊥) → false ≡ leap_year y
+leap_not_hundred : (y : ℕ) → y % 100 ≡ 0 → (y % 400 ≡ 0 → ⊥) → false ≡ leap_year y
 unfolding leap_year
 leap_not_hundred y h n = sym (if_eq (y % 100) 0 _ _ h ∙ ne_eqb (y % 400) 0 n)
 
-pub leap_other : (y : ℕ) → y % 4 ≡ 0 → (y % 400 ≡ 100 → ⊥) → (y % 400 ≡ 200 → ⊥) → (y % 400 ≡ 300 → ⊥) → true ≡ leap_year y
+leap_other : (y : ℕ) → y % 4 ≡ 0 → (y % 400 ≡ 100 → ⊥) → (y % 400 ≡ 200 → ⊥) → (y % 400 ≡ 300 → ⊥) → true ≡ leap_year y
 unfolding leap_year
 leap_other y h a b c =
     by_test (y % 100 =? 0) (λ e. let z = eqb-true (y % 100) 0 e in sym (if_true _ _ e ∙ eq-eqb (y % 400) 0 (omega arith)))
     (λ e. sym (if_false _ _ e ∙ eq-eqb (y % 4) 0 h))
+
+pub leap_hundred : (y r : ℕ) → r ≡ y % 400 → (r ≡ 100) ⊎ ((r ≡ 200) ⊎ (r ≡ 300)) → false ≡ leap_year y
+leap_hundred y r h (inl e) = leap_not_hundred y (omega arith) (λ z. omega arith)
+leap_hundred y r h (inr (inl e)) = leap_not_hundred y (omega arith) (λ z. omega arith)
+leap_hundred y r h (inr (inr e)) = leap_not_hundred y (omega arith) (λ z. omega arith)
+
+pub leap_fourth : (y r : ℕ) → r ≡ y % 400 → y % 4 ≡ 0 → ((r ≡ 100) ⊎ ((r ≡ 200) ⊎ (r ≡ 300)) → ⊥) → true ≡ leap_year y
+leap_fourth y r h z n = leap_other y z (λ e. n (inl (h ∙ e))) (λ e. n (inr (inl (h ∙ e)))) (λ e. n (inr (inr (h ∙ e))))
 
 -- the calendar repeats after 400 years, and so after any multiple of 400
 pub leap_again : (n y : ℕ) → leap_year (400 * n + y) ≡ leap_year y

@@ -1,13 +1,13 @@
 -- The ranges of the integer codes as tables: each row is the number that the code's numeral has, by computing it.
-use Prim.Native.Nat.{ℕ, ◌-◌, ◌≤◌, ◌<◌}
+use Prim.Native.Nat.{ℕ, ◌-◌, ◌≤◌, ◌<◌, min}
 use mathlib.Core.Path.{◌≡◌, refl, sym, ◌∙◌}
 use mathlib.Core.Bool.{true, false}
 use mathlib.Core.List.{List, [], ◌∷◌}
 use native.Mathlib.Omega.{arith}
 use lib.ListN.{get_or}
-use borrow.Author.Tests.{eqb-true, ne_eqb, le-leb, lt-leb}
-use Rattle.laws.specs.Choice.{when◌then◌else◌, ◌and◌, ◌=?◌, ◌<?◌}
-use Rattle.laws.proofs.Cases.{if_le, if_gt, and_true, and_false}
+use borrow.Author.Tests.{eqb-true, ne_eqb, le-leb, lt-leb, leb-true, leb-false}
+use Rattle.laws.specs.Choice.{when◌then◌else◌, ◌and◌, ◌=?◌, ◌<?◌, ◌≤?◌}
+use Rattle.laws.proofs.Cases.{if_le, if_gt, and_true, and_false, by_test}
 use Rattle.laws.proofs.Tables.{passes, RightAt, right_at}
 use Rattle.field.specs.Formats.{format_of, signs_of, digits_in, base_of, limit_of, half_of, top_of, numeral_of}
 use Rattle.field.specs.Cells.{spans}
@@ -39,7 +39,7 @@ unfolding format_of limit_of when◌then◌else◌ ◌and◌
 limit_at c h = eqb-true _ _ (passes (λ (n : ℕ). limit_of (format_of n) =? (when n <? 5 then 256 else 65536)) 11 refl c (omega arith))
 
 -- a code past the last reads as the last
-pub past_last : (c : ℕ) → 0x0a < c → format_of c ≡ format_of 0x0a
+past_last : (c : ℕ) → 0x0a < c → format_of c ≡ format_of 0x0a
 unfolding format_of when◌then◌else◌
 past_last c h =
     simp (
@@ -54,6 +54,11 @@ past_last c h =
       ne_eqb c 8 (λ e. omega arith),
       ne_eqb c 9 (λ e. omega arith),
     )
+
+pub up_to_last : (c : ℕ) → format_of (min c 0x0a) ≡ format_of c
+up_to_last c =
+    by_test (c ≤? 0x0a) (λ e. let h = leb-true c 0x0a e in let m : min c 0x0a ≡ c = omega arith in rw m)
+    (λ e. let h = leb-false c 0x0a e in let m : min c 0x0a ≡ 0x0a = omega arith in rw m (sym (past_last c (leb-false c 0x0a e))))
 
 -- the three ways to settle whether a number is in a code's range
 module _ (c x : ℕ) (k : c ≤ 0x0a) where

@@ -1,6 +1,6 @@
 -- Legal working copies: the chosen cell exists and every cell is within its ends.
 use Prim.Native.Nat.{ℕ, zero, suc, ◌≤◌, ◌<◌}
-use mathlib.Core.Path.{◌≡◌, refl}
+use mathlib.Core.Path.{◌≡◌, refl, sym, ◌∙◌}
 use mathlib.Core.Bool.{Bool, true, false≢true}
 use mathlib.Core.List.{List}
 use native.Mathlib.Omega.{arith}
@@ -9,7 +9,7 @@ use lib.ListN.{get_or}
 use lib.Dec.{lit≤}
 use borrow.Author.Tests.{leb-true, le-leb}
 use Rattle.laws.specs.Choice.{when◌then◌else◌}
-use Rattle.laws.proofs.Cases.{if_ind, and_i, and_l, and_r}
+use Rattle.laws.proofs.Cases.{by_test, if_ind, and_i, and_l, and_r}
 use Rattle.field.specs.Formats.{base_of}
 use Rattle.field.specs.Profiles.{profile_of, ends, flag, digit, cell_of, held_to}
 use Rattle.field.specs.Cells.{within, all_within, legal}
@@ -73,6 +73,15 @@ module _ (row : ℕ → Cell) (cs : List ℕ) where
   all_bool zero h = refl
   all_bool (suc n) h =
       and_i (all_bool n (record { within = λ i l. h.within i (omega arith) })) (within_bool (row n) (get_or cs n 0) (h.within n (omega arith)))
+
+  -- a test that passes where each cell does
+  pub all_test : (n : ℕ) (t : Bool) → (t ≡ true → (i : ℕ) → i < n → within (row i) (get_or cs i 0) ≡ true)
+      → (((i : ℕ) → i < n → within (row i) (get_or cs i 0) ≡ true) → t ≡ true) → t ≡ all_within row cs n
+  all_test n t f g =
+      by_test (all_within row cs n) (λ e. g (λ i l. within_bool (row i) (get_or cs i 0) (each n e i l)) ∙ sym e)
+      (λ e. by_test t
+      (λ p. absurd (false≢true (sym e ∙ all_bool n (record { within = λ i l. within_true (row i) (get_or cs i 0) (f p i l) }))))
+      (λ p. p ∙ sym e))
 
 -- cells that pass the test are legal
 pub legal_true : (kind : Kind) (w : Work) → legal kind w ≡ true → LegalCells kind w

@@ -9,14 +9,11 @@ fn in_cycle(year: u32) -> u32
     ensures { result ≡ year % 400 }
 {
     let mut rest = year;
-    let mut span = 3355443200;
-    let mut turns: u8 = 24;
-    while 0 < turns {
+    for turn in (0..24u32).rev() {
+        let span = 400 << turn;
         if span <= rest {
-            rest = rest - span;
+            rest -= span;
         }
-        span = span / 2;
-        turns = turns - 1;
     }
     rest
 }
@@ -25,15 +22,7 @@ fn in_cycle(year: u32) -> u32
 fn is_leap(year: u32) -> bool
     ensures { result ≡ leap_year year }
 {
-    if year % 4 != 0 {
-        return false;
-    }
-    match in_cycle(year) {
-        100 => false,
-        200 => false,
-        300 => false,
-        _ => true,
-    }
+    year % 4 == 0 && !matches!(in_cycle(year), 100 | 200 | 300)
 }
 
 // The last day of a month.
@@ -41,16 +30,8 @@ pub fn month_end(year: u32, month: u32) -> u32
     ensures { result ≡ month_end year month }
 {
     match month {
-        2 => {
-            if is_leap(year) {
-                return 29;
-            }
-            28
-        }
-        4 => 30,
-        6 => 30,
-        9 => 30,
-        11 => 30,
+        2 => if is_leap(year) { 29 } else { 28 },
+        4 | 6 | 9 | 11 => 30,
         _ => 31,
     }
 }

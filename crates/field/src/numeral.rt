@@ -1,5 +1,6 @@
 // Numbers in digits: how a number is made up of cells, for every integer format and for switches.
 ghost use Rattle.std.specs.Prelude.{◌≡◌, ◌+◌, ◌-◌, ◌/◌, ◌%◌, ◌^◌, ◌≤◌, ◌<◌, min, length, take, drop};
+ghost use Rattle.laws.specs.Choice.{when◌then◌else◌};
 ghost use Rattle.laws.specs.Digits.{digits_of, number_from};
 ghost use Rattle.laws.specs.Overwrite.{over};
 ghost use Rattle.field.specs.Formats.{format_of, signs_of, digits_in, base_of, limit_of, half_of, top_of};
@@ -10,7 +11,7 @@ ghost use Rattle.field.specs.Sound.{Sound, Based};
 
 use crate::kind::{Format, Kind};
 use crate::work::Work;
-use laws::digits::{first_digit, lowest_digits, power_of_ten};
+use laws::digits::{first_digit, lowest_digits};
 
 // Sign cells, digit cells, base; the range, from `below` below 0 to `above` above it; how many numbers its
 // bytes can hold.
@@ -34,13 +35,19 @@ impl Format {
     pub(crate) fn digits_in(self) -> u8
         ensures { result ≡ digits_in self }
     {
-        if self.digits < 5 { self.digits } else { 5 }
+        self.digits.min(5)
     }
 
     pub(crate) fn base(self) -> u64
         ensures { result ≡ base_of self }
     {
         if self.hex { 16 } else { 10 }
+    }
+
+    pub(crate) fn bytes(self) -> u8
+        ensures { result ≡ when self.wide then 2 else 1 }
+    {
+        if self.wide { 2 } else { 1 }
     }
 
     fn limit(self) -> u64
@@ -53,19 +60,16 @@ impl Format {
         ensures { result ≡ half_of self }
     {
         if self.signed {
-            return self.limit() / 2;
+            self.limit() / 2
+        } else {
+            self.limit()
         }
-        self.limit()
     }
 
     fn top(self) -> u64
         ensures { result ≡ top_of self }
     {
-        let digits = self.digits_in();
-        if self.hex {
-            return power(16, digits) - 1;
-        }
-        power_of_ten(digits) as u64 - 1
+        self.base().pow(self.digits_in() as u32) - 1
     }
 
     pub fn numeral(self) -> Numeral
@@ -78,8 +82,8 @@ impl Format {
             signs: self.signs(),
             digits: self.digits_in(),
             base: self.base(),
-            above: smaller(half - 1, top),
-            below: smaller(limit - half, top),
+            above: (half - 1).min(top),
+            below: (limit - half).min(top),
             limit,
         }
     }
@@ -102,14 +106,8 @@ fn code_spans(code: usize, x: usize) -> bool
     requires { code ≤ 0x0a }
     ensures { result ≡ spans (numeral_of (format_of code)) x }
 {
-    if x <= ABOVE[code] {
-        return true;
-    }
     let limit = code_limit(code);
-    if limit - BELOW[code] <= x {
-        return x < limit;
-    }
-    false
+    x <= ABOVE[code] || (limit - BELOW[code] <= x && x < limit)
 }
 
 // Whether a number is in the range of an integer's code, for readers that make no record of a field. A code
@@ -117,41 +115,14 @@ fn code_spans(code: usize, x: usize) -> bool
 pub fn is_in_code(code: usize, x: usize) -> bool
     ensures { result ≡ spans (numeral_of (format_of code)) x }
 {
-    if code <= 0x0a {
-        return code_spans(code, x);
-    }
-    code_spans(0x0a, x)
+    code_spans(code.min(0x0a), x)
 }
 
 // The bits of a switch.
 pub(crate) fn bits_in(n: u8) -> u8
     ensures { result ≡ bits_in n }
 {
-    if n < Kind::MAX_BITS {
-        n
-    } else {
-        Kind::MAX_BITS
-    }
-}
-
-fn smaller(a: u64, b: u64) -> u64
-    ensures { result ≡ min a b }
-{
-    if a < b { a } else { b }
-}
-
-// The power of a base.
-fn power(base: u64, count: u8) -> u64
-    requires { (2 ≤ base) × (base ^ count ≤ 4294967296) }
-    ensures { result ≡ base ^ count }
-{
-    let mut p: u64 = 1;
-    let mut i = 0;
-    while i < count {
-        p = p * base;
-        i = i + 1;
-    }
-    p
+    n.min(Kind::MAX_BITS)
 }
 
 // The lowest digit to the base 16 or 2.
@@ -175,10 +146,8 @@ fn write_binary(cells: &mut [u32], start: u8, count: u8, base: u64, x: u32)
     requires { ((base ≡ 16 → ⊥) → base ≡ 2) × (start + count ≤ length cells.old) }
     ensures { cells.new ≡ over cells.old start (digits_of base count x) }
 {
-    let mut left = count;
     let mut rest = x;
-    while 0 < left {
-        left = left - 1;
+    for left in (0..count).rev() {
         cells[start as usize + left as usize] = lowest(base, rest);
         rest = before_lowest(base, rest);
     }
@@ -189,15 +158,11 @@ fn write_decimal(cells: &mut [u32], start: u8, count: u8, x: u32)
     requires { start + count ≤ length cells.old }
     ensures { cells.new ≡ over cells.old start (digits_of 10 count x) }
 {
-    let mut at = start as usize;
-    let mut left = count;
     let mut rest = lowest_digits(x, count);
-    while 0 < left {
-        let d = first_digit(rest, left);
-        cells[at] = d.digit;
-        rest = d.rest;
-        at = at + 1;
-        left = left - 1;
+    for i in 0..count {
+        let first = first_digit(rest, count - i);
+        cells[start as usize + i as usize] = first.digit;
+        rest = first.rest;
     }
 }
 
@@ -207,10 +172,10 @@ fn write_digits(cells: &mut [u32], start: u8, count: u8, base: u64, x: u32)
     ensures { cells.new ≡ over cells.old start (digits_of base count x) }
 {
     if base == 10 {
-        write_decimal(&mut *cells, start, count, x);
-        return;
+        write_decimal(cells, start, count, x);
+    } else {
+        write_binary(cells, start, count, base, x);
     }
-    write_binary(&mut *cells, start, count, base, x);
 }
 
 // The number that count digits from start on show.
@@ -218,12 +183,10 @@ fn read_digits(w: Work, start: u8, count: u8, base: u64) -> u64
     requires { (2 ≤ base) × (start + count ≤ 32) × (base ^ count ≤ 4294967296) }
     ensures { result ≡ number_from base 0 (take count (drop start w.cells)) }
 {
-    let mut n: u64 = 0;
-    let mut i: u8 = 0;
-    while i < count {
-        let at = start as usize + i as usize;
-        n = n * base + w.cells[at] as u64;
-        i = i + 1;
+    let start = start as usize;
+    let mut n = 0;
+    for cell in &w.cells[start..start + count as usize] {
+        n = n * base + *cell as u64;
     }
     n
 }
@@ -238,7 +201,7 @@ impl Numeral {
             signs: 0,
             digits,
             base: 2,
-            above: power(2, digits) - 1,
+            above: 2u64.pow(digits as u32) - 1,
             below: 0,
             limit: 4294967296,
         }
@@ -249,25 +212,17 @@ impl Numeral {
         requires { Sound self }
         ensures { result ≡ spans self x }
     {
-        if x <= self.above {
-            return true;
-        }
-        if self.limit - self.below <= x {
-            return x < self.limit;
-        }
-        false
+        x <= self.above || (self.limit - self.below <= x && x < self.limit)
     }
 
     fn distance(self, x: u64) -> u64
         ensures { result ≡ distance self x }
     {
         if x <= self.above {
-            return x;
+            x
+        } else {
+            self.limit.saturating_sub(x)
         }
-        if x < self.limit {
-            return self.limit - x;
-        }
-        0
     }
 
     fn sign(self, x: u64) -> u32
@@ -301,10 +256,7 @@ impl Numeral {
     fn minus(self, w: Work) -> bool
         ensures { result ≡ minus self w.cells }
     {
-        if self.signs == 0 {
-            return false;
-        }
-        w.cells[0] == 0
+        self.signs != 0 && w.cells[0] == 0
     }
 
     // Whether what the cells show is in the range.
@@ -314,9 +266,10 @@ impl Numeral {
     {
         let m = self.shown_by(w);
         if self.minus(w) {
-            return m <= self.below;
+            m <= self.below
+        } else {
+            m <= self.above
         }
-        m <= self.above
     }
 
     // The number that the cells stand for.
@@ -325,15 +278,10 @@ impl Numeral {
         ensures { result ≡ of_digits self w.cells }
     {
         let m = self.shown_by(w);
-        if self.minus(w) {
-            if m == 0 {
-                return 0;
-            }
-            if m < self.limit {
-                return self.limit - m;
-            }
-            return 0;
+        if m != 0 && self.minus(w) {
+            self.limit.saturating_sub(m)
+        } else {
+            m
         }
-        m
     }
 }

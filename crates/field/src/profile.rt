@@ -1,6 +1,5 @@
 // The two tables that every key and every check goes by: a row for each kind, and a row for each cell.
 ghost use Rattle.std.specs.Prelude.{◌≡◌, ℕ, Bool, List};
-ghost use Rattle.laws.specs.Choice.{when◌then◌else◌};
 ghost use Rattle.field.specs.Formats.{base_of};
 ghost use Rattle.field.specs.Profiles.{moving, sliding, parted, firing, stepping, profile_of, ends};
 ghost use Rattle.field.specs.Profiles.{flag, digit, counter_cell, time_cell, option_cell, year_cell};
@@ -34,24 +33,14 @@ pub struct Cell {
     pub typed: bool,
 }
 
-fn long_or(long: bool, a: u8, b: u8) -> u8
-    ensures { result ≡ when long then a else b }
-{
-    if long { a } else { b }
-}
-
 impl Profile {
     // LEFT and RIGHT move between cells.
     fn moving(cells: u8, bytes: u8) -> Self
         ensures { result ≡ moving cells bytes }
     {
         Profile {
-            cells,
-            bytes,
             moves: true,
-            slides: false,
-            parts: false,
-            fires: false,
+            ..Self::stepping(cells, bytes)
         }
     }
 
@@ -60,12 +49,8 @@ impl Profile {
         ensures { result ≡ sliding cells bytes }
     {
         Profile {
-            cells,
-            bytes,
-            moves: false,
             slides: true,
-            parts: false,
-            fires: false,
+            ..Self::stepping(cells, bytes)
         }
     }
 
@@ -74,12 +59,8 @@ impl Profile {
         ensures { result ≡ parted cells bytes }
     {
         Profile {
-            cells,
-            bytes,
-            moves: false,
-            slides: false,
             parts: true,
-            fires: false,
+            ..Self::stepping(cells, bytes)
         }
     }
 
@@ -88,12 +69,8 @@ impl Profile {
         ensures { result ≡ firing cells bytes }
     {
         Profile {
-            cells,
-            bytes,
-            moves: false,
-            slides: false,
-            parts: false,
             fires: true,
+            ..Self::stepping(cells, bytes)
         }
     }
 
@@ -117,15 +94,14 @@ pub fn profile_of(kind: Kind) -> Profile
     ensures { result ≡ profile_of kind }
 {
     match kind {
-        Kind::Integer(f) => Profile::moving(f.signs() + f.digits_in(), long_or(f.wide, 2, 1)),
+        Kind::Integer(f) => Profile::moving(f.signs() + f.digits_in(), f.bytes()),
         Kind::Counter(_) => Profile::stepping(1, 2),
-        Kind::Time(long) => Profile::parted(long_or(long, 3, 2), long_or(long, 3, 2)),
-        Kind::Date(long) => Profile::parted(3, long_or(long, 4, 3)),
+        Kind::Time(true) => Profile::parted(3, 3),
+        Kind::Time(false) => Profile::parted(2, 2),
+        Kind::Date(true) => Profile::parted(3, 4),
+        Kind::Date(false) => Profile::parted(3, 3),
         Kind::Switch(n) => Profile::moving(bits_in(n), 4),
-        Kind::Option {
-            items: _,
-            longest: _,
-        } => Profile::sliding(1, 1),
+        Kind::Option { .. } => Profile::sliding(1, 1),
         Kind::Trigger => Profile::firing(1, 0),
     }
 }
@@ -148,91 +124,82 @@ impl Cell {
         ensures { result ≡ flag }
     {
         Cell {
-            low: 0,
-            high: 1,
-            step: 1,
             sets: true,
-            typed: false,
+            ..Self::ends(0, 1, 1)
         }
     }
 
     fn digit(f: Format) -> Self
         ensures { result ≡ digit (base_of f) }
     {
-        let high = if f.hex { 15 } else { 9 };
         Cell {
-            low: 0,
-            high,
-            step: 1,
-            sets: false,
             typed: true,
+            ..Self::ends(0, f.base() as u32 - 1, 1)
         }
     }
 
     pub(crate) fn counter(s: CounterSettings) -> Self
         ensures { result ≡ counter_cell s }
     {
-        Cell::ends(s.min as u32, s.max as u32, s.step as u32)
+        Self::ends(s.min as u32, s.max as u32, s.step as u32)
     }
 
     pub(crate) fn time(i: usize) -> Self
         ensures { result ≡ time_cell i }
     {
         if i == 0 {
-            return Cell::ends(0, Kind::MAX_HOUR as u32, 1);
+            Self::ends(0, Kind::MAX_HOUR as u32, 1)
+        } else {
+            Self::ends(0, Kind::MAX_MINUTE as u32, 1)
         }
-        Cell::ends(0, Kind::MAX_MINUTE as u32, 1)
     }
 
     pub(crate) fn year(long: bool) -> Self
         ensures { result ≡ year_cell long }
     {
         if long {
-            return Cell::ends(0, Kind::MAX_YEAR as u32, 1);
+            Self::ends(0, Kind::MAX_YEAR as u32, 1)
+        } else {
+            Self::ends(0, Kind::MAX_SHORT_YEAR as u32, 1)
         }
-        Cell::ends(0, Kind::MAX_SHORT_YEAR as u32, 1)
     }
 
     pub(crate) fn month() -> Self
         ensures { result ≡ month_cell }
     {
-        Cell::ends(1, Kind::MAX_MONTH as u32, 1)
+        Self::ends(1, Kind::MAX_MONTH as u32, 1)
     }
 
     pub(crate) fn day(last: u32) -> Self
         ensures { result ≡ day_cell last }
     {
-        Cell::ends(1, last, 1)
+        Self::ends(1, last, 1)
     }
 
     pub(crate) fn option(items: u8) -> Self
         ensures { result ≡ option_cell items }
     {
-        if items == 0 {
-            return Cell::ends(0, 0, 1);
-        }
-        Cell::ends(0, (items - 1) as u32, 1)
+        Self::ends(0, items.saturating_sub(1) as u32, 1)
     }
 
     fn of_integer(f: Format, i: usize) -> Self
         ensures { (cs : List ℕ) → result ≡ cell_of (Kind.Integer f) cs i }
     {
         if i < f.signs() as usize {
-            return Cell::flag();
+            Self::flag()
+        } else {
+            Self::digit(f)
         }
-        Cell::digit(f)
     }
 
     fn of_date(long: bool, work: Work, i: usize) -> Self
         ensures { result ≡ cell_of (Kind.Date long) work.cells i }
     {
-        if i == 0 {
-            return Cell::year(long);
+        match i {
+            0 => Self::year(long),
+            1 => Self::month(),
+            _ => Self::day(end_of(work)),
         }
-        if i == 1 {
-            return Cell::month();
-        }
-        Cell::day(end_of(work))
     }
 }
 
@@ -254,7 +221,7 @@ pub fn cell_of(kind: Kind, work: Work, i: usize) -> Cell
         Kind::Time(_) => Cell::time(i),
         Kind::Date(long) => Cell::of_date(long, work, i),
         Kind::Switch(_) => Cell::flag(),
-        Kind::Option { items, longest: _ } => Cell::option(items),
+        Kind::Option { items, .. } => Cell::option(items),
         Kind::Trigger => Cell::ends(0, 0, 1),
     }
 }
@@ -264,21 +231,8 @@ fn is_open_day(kind: Kind, work: Work, i: usize) -> bool
     ensures { result ≡ open_day kind work i }
 {
     match kind {
-        Kind::Integer(_) => false,
-        Kind::Counter(_) => false,
-        Kind::Time(_) => false,
-        Kind::Date(_) => {
-            if i == Kind::DAY_PART as usize {
-                return work.at < Kind::DAY_PART;
-            }
-            false
-        }
-        Kind::Switch(_) => false,
-        Kind::Option {
-            items: _,
-            longest: _,
-        } => false,
-        Kind::Trigger => false,
+        Kind::Date(_) => i == Kind::DAY_PART as usize && work.at < Kind::DAY_PART,
+        _ => false,
     }
 }
 
@@ -287,7 +241,8 @@ pub(crate) fn held_to(kind: Kind, work: Work, i: usize) -> Cell
     ensures { result ≡ held_to kind work i }
 {
     if is_open_day(kind, work, i) {
-        return Cell::day(Kind::MAX_DAY as u32);
+        Cell::day(Kind::MAX_DAY as u32)
+    } else {
+        cell_of(kind, work, i)
     }
-    cell_of(kind, work, i)
 }

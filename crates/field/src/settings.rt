@@ -12,18 +12,16 @@ pub fn digit_count(x: u64) -> u8
     ensures { (result ≡ digit_count x) × (result ≤ 5) }
 {
     if x < 10 {
-        return 1;
+        1
+    } else if x < 100 {
+        2
+    } else if x < 1000 {
+        3
+    } else if x < 10000 {
+        4
+    } else {
+        5
     }
-    if x < 100 {
-        return 2;
-    }
-    if x < 1000 {
-        return 3;
-    }
-    if x < 10000 {
-        return 4;
-    }
-    5
 }
 
 // The display cells that a counter's number takes; the number is given with 32,768 added.
@@ -31,52 +29,32 @@ pub fn counted_cells(x: u16) -> u8
     ensures { result ≡ counted_cells x }
 {
     if x < 32768 {
-        return 1 + digit_count((32768 - x) as u64);
+        1 + digit_count((32768 - x) as u64)
+    } else {
+        digit_count((x - 32768) as u64)
     }
-    digit_count((x - 32768) as u64)
 }
 
 fn step_fits(s: CounterSettings) -> bool
     ensures { result ≡ step_fits s }
 {
-    if 1 <= s.step {
-        return s.step < 32768;
-    }
-    false
+    1 <= s.step && s.step < 32768
 }
 
 fn width_fits(s: CounterSettings) -> bool
     ensures { result ≡ width_fits s }
 {
-    let low = counted_cells(s.min);
-    let high = counted_cells(s.max);
-    if low <= s.width {
-        return high <= s.width;
-    }
-    false
+    counted_cells(s.min) <= s.width && counted_cells(s.max) <= s.width
 }
 
 fn kind_fits(kind: Kind) -> bool
     ensures { result ≡ kind_fits kind }
 {
     match kind {
-        Kind::Integer(_) => true,
-        Kind::Counter(s) => {
-            if step_fits(s) {
-                return width_fits(s);
-            }
-            false
-        }
-        Kind::Time(_) => true,
-        Kind::Date(_) => true,
-        Kind::Switch(n) => {
-            if 1 <= n {
-                return n <= Kind::MAX_BITS;
-            }
-            false
-        }
-        Kind::Option { items, longest: _ } => 1 <= items,
-        Kind::Trigger => true,
+        Kind::Counter(s) => step_fits(s) && width_fits(s),
+        Kind::Switch(n) => 1 <= n && n <= Kind::MAX_BITS,
+        Kind::Option { items, .. } => 1 <= items,
+        _ => true,
     }
 }
 
@@ -84,8 +62,5 @@ fn kind_fits(kind: Kind) -> bool
 pub fn settings_fit(kind: Kind, default: Value) -> bool
     ensures { result ≡ settings_fit kind default }
 {
-    if kind_fits(kind) {
-        return in_range(kind, default.number());
-    }
-    false
+    kind_fits(kind) && in_range(kind, default.number())
 }

@@ -5,7 +5,7 @@ ghost use Rattle.laws.specs.Parts.{put_at};
 ghost use Rattle.field.specs.Values.{bytes_of, value_at, number_of, value_from};
 
 use crate::kind::SheetPlace;
-use laws::byte_at;
+use laws::{byte_at, put_bytes};
 
 // The first count of the bytes, at most four; those past them are not looked at.
 #[derive(Clone, Copy)]
@@ -18,11 +18,14 @@ impl Value {
     pub fn len(self) -> usize
         ensures { result ≡ length (bytes_of self) }
     {
-        if self.count < 4 {
-            self.count as usize
-        } else {
-            4
-        }
+        self.count.min(4) as usize
+    }
+
+    // The bytes that count.
+    fn as_bytes(&self) -> &[u8]
+        ensures { result.now ≡ bytes_of self.now }
+    {
+        &self.bytes[..self.len()]
     }
 
     // The ith byte, 0 past the last.
@@ -92,26 +95,9 @@ pub fn load(sheet: &[u8], place: SheetPlace, count: u8) -> Value
     value_at(sheet, place.0, count)
 }
 
-// Writes a value at the start of a part of the sheet; where it does not fit nothing changes.
-pub fn store(part: &mut [u8], value: Value)
-    ensures { part.new ≡ put_at 0 (bytes_of value) part.old }
-{
-    let n = value.len();
-    if n <= part.len() {
-        let mut i = 0;
-        while i < n {
-            part[i] = value.bytes[i];
-            i = i + 1;
-        }
-    }
-}
-
 // Writes a value at a place of the sheet; where it does not fit nothing changes.
 pub fn put(sheet: &mut [u8], place: SheetPlace, value: Value)
     ensures { sheet.new ≡ put_at place.0 (bytes_of value) sheet.old }
 {
-    let at = place.0;
-    if at <= sheet.len() {
-        store(&mut sheet[at..], value);
-    }
+    put_bytes(sheet, place.0, value.as_bytes());
 }

@@ -57,10 +57,7 @@ impl Work {
             Kind::Time(long) => three(x % 256, x / 256 % 256, third(long, x)),
             Kind::Date(_) => three(x / 65536, x / 256 % 256, x % 256),
             Kind::Switch(n) => Numeral::of_bits(n).in_digits(x as u64),
-            Kind::Option {
-                items: _,
-                longest: _,
-            } => three(x, 0, 0),
+            Kind::Option { .. } => three(x, 0, 0),
             Kind::Trigger => three(0, 0, 0),
         }
     }
@@ -81,10 +78,7 @@ impl Work {
         ensures { (result ≡ when long then 65536 * get_or self.cells 2 0 else 0)
             × (result < 281474976710656) }
     {
-        if long {
-            return 65536 * self.cell(2);
-        }
-        0
+        if long { 65536 * self.cell(2) } else { 0 }
     }
 
     // The number that the cells stand for.
@@ -97,10 +91,7 @@ impl Work {
             Kind::Time(long) => self.cell(0) + 256 * self.cell(1) + self.seconds(long),
             Kind::Date(_) => self.cell(2) + 256 * self.cell(1) + 65536 * self.cell(0),
             Kind::Switch(n) => Numeral::of_bits(n).of_digits(self),
-            Kind::Option {
-                items: _,
-                longest: _,
-            } => self.cell(0),
+            Kind::Option { .. } => self.cell(0),
             Kind::Trigger => 0,
         }
     }
@@ -111,44 +102,24 @@ impl Work {
     {
         match kind {
             Kind::Integer(f) => f.numeral().storable(self),
-            Kind::Counter(_) => true,
-            Kind::Time(_) => true,
-            Kind::Date(_) => true,
-            Kind::Switch(_) => true,
-            Kind::Option {
-                items: _,
-                longest: _,
-            } => true,
-            Kind::Trigger => true,
+            _ => true,
         }
     }
 
-    fn also_within(self, kind: Kind, i: usize, ok: bool) -> bool
-        ensures { result ≡ ok and within (held_to kind self i) (get_or self.cells i 0) }
+    // Whether a cell is within the ends of the row that it is held to.
+    fn is_held(self, kind: Kind, i: usize) -> bool
+        ensures { result ≡ within (held_to kind self i) (get_or self.cells i 0) }
     {
         let c = held_to(kind, self, i);
         let x = self.cell(i);
-        if ok {
-            if c.low as u64 <= x {
-                return x <= c.high as u64;
-            }
-            return false;
-        }
-        false
+        c.low as u64 <= x && x <= c.high as u64
     }
 
-    // Whether each cell is within the ends of the row that it is held to.
+    // Whether each cell is.
     pub fn legal(self, kind: Kind) -> bool
         ensures { result ≡ legal kind self }
     {
-        let count = profile_of(kind).cells as usize;
-        let mut ok = true;
-        let mut i = 0;
-        while i < count {
-            ok = self.also_within(kind, i, ok);
-            i = i + 1;
-        }
-        ok
+        (0..profile_of(kind).cells as usize).all(|i| self.is_held(kind, i))
     }
 
     // Where a visit starts: the value's cells, or the default's where the value is out of range.
@@ -157,9 +128,10 @@ impl Work {
     {
         let x = value.number();
         if in_range(kind, x) {
-            return Work::showing(kind, x);
+            Self::showing(kind, x)
+        } else {
+            Self::showing(kind, default.number())
         }
-        Work::showing(kind, default.number())
     }
 
     // The value that the cells stand for: what the last ENTER stores.
@@ -174,10 +146,7 @@ impl Work {
 fn is_within(c: Cell, x: u32) -> bool
     ensures { result ≡ within c x }
 {
-    if c.low <= x {
-        return x <= c.high;
-    }
-    false
+    c.low <= x && x <= c.high
 }
 
 // Whether the parts of a time are within their ends; seconds that it has not are 0.
@@ -185,12 +154,9 @@ fn is_time(hour: u32, minute: u32, second: u32) -> bool
     ensures { result
         ≡ (within (time_cell 0) hour and within (time_cell 1) minute) and within (time_cell 2) second }
 {
-    if is_within(Cell::time(0), hour) {
-        if is_within(Cell::time(1), minute) {
-            return is_within(Cell::time(2), second);
-        }
-    }
-    false
+    is_within(Cell::time(0), hour)
+        && is_within(Cell::time(1), minute)
+        && is_within(Cell::time(2), second)
 }
 
 // Whether a date is real.
@@ -198,12 +164,9 @@ fn is_date(long: bool, year: u32, month: u32, day: u32) -> bool
     ensures { result ≡ (within (year_cell long) year and within month_cell month)
         and within (day_cell (month_end (full_year long year) month)) day }
 {
-    if is_within(Cell::year(long), year) {
-        if is_within(Cell::month(), month) {
-            return is_within(Cell::day(month_end(year, month)), day);
-        }
-    }
-    false
+    is_within(Cell::year(long), year)
+        && is_within(Cell::month(), month)
+        && is_within(Cell::day(month_end(year, month)), day)
 }
 
 // Whether a number that the field's bytes can hold is in its range. No cells are made for it: the digits of
@@ -217,7 +180,7 @@ pub fn in_range(kind: Kind, x: u32) -> bool
         Kind::Time(long) => is_time(x % 256, x / 256 % 256, third(long, x)),
         Kind::Date(long) => is_date(long, x / 65536, x / 256 % 256, x % 256),
         Kind::Switch(n) => Numeral::of_bits(n).spans(x as u64),
-        Kind::Option { items, longest: _ } => is_within(Cell::option(items), x),
+        Kind::Option { items, .. } => is_within(Cell::option(items), x),
         Kind::Trigger => true,
     }
 }

@@ -1,4 +1,5 @@
 pub mod Parts
+pub mod Choosing
 pub mod Kept
 pub mod Outcomes
 pub mod Dates

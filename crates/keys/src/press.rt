@@ -1,9 +1,8 @@
 // A visit by keys: one function a key, each from a working copy and its rows of the tables to the next
 // working copy. ENTER takes the kind.
-ghost use Rattle.std.specs.Prelude.{◌≡◌, ◌<◌};
-ghost use Rattle.keys.specs.Keys.{taken, flash, chosen, with_chosen, raised, lowered, up_key, down_key};
-ghost use Rattle.keys.specs.Keys.{left_key, right_key, on_right, digit_key, part_after, capped};
-ghost use Rattle.keys.specs.Keys.{enter_key};
+ghost use Rattle.std.specs.Prelude.{◌≡◌, ◌+◌, ◌<◌, true, SomeIff, MatchOption};
+ghost use Rattle.keys.specs.Keys.{taken, flash, chosen, with_chosen, choosing, raised, lowered, up_key};
+ghost use Rattle.keys.specs.Keys.{down_key, left_key, right_key, digit_key, part_after, capped, enter_key};
 
 use field::kind::Kind;
 use field::profile::{Cell, Profile, cell_of, profile_of};
@@ -28,22 +27,10 @@ pub struct Pressed {
 }
 
 impl Pressed {
-    fn taken(work: Work) -> Self
-        ensures { result ≡ taken work }
+    fn new(work: Work, outcome: Outcome) -> Self
+        ensures { result ≡ record { work = work; outcome = outcome } }
     {
-        Pressed {
-            work,
-            outcome: Outcome::Taken,
-        }
-    }
-
-    fn flash(work: Work) -> Self
-        ensures { result ≡ flash work }
-    {
-        Pressed {
-            work,
-            outcome: Outcome::Flash,
-        }
+        Pressed { work, outcome }
     }
 }
 
@@ -63,115 +50,103 @@ fn with_chosen(mut w: Work, x: u32) -> Work
     w
 }
 
+// The cell on the right of the chosen one, where there is one.
+fn next_cell(w: Work, p: Profile) -> Option<u8>
+    ensures { SomeIff result (w.at + 1 < p.cells) (w.at + 1) }
+{
+    w.at.checked_add(1).filter(|at| *at < p.cells)
+}
+
+// Another cell chosen; a flash where there is none.
+fn choose(w: Work, at: Option<u8>) -> Pressed
+    ensures { MatchOption at (result ≡ flash w) (λ i. result ≡ taken (choosing w i)) }
+{
+    match at {
+        Some(at) => Pressed::new(Work { at, ..w }, Outcome::Taken),
+        None => Pressed::new(w, Outcome::Flash),
+    }
+}
+
 // The sum is made in 64 bits, so that it cannot wrap.
 fn raise(w: Work, c: Cell) -> Pressed
     ensures { result ≡ raised c w }
 {
     if c.sets {
-        return Pressed::taken(with_chosen(w, c.high));
+        return Pressed::new(with_chosen(w, c.high), Outcome::Taken);
     }
     let x = chosen(w) + c.step as u64;
     if x <= c.high as u64 {
-        return Pressed::taken(with_chosen(w, x as u32));
+        Pressed::new(with_chosen(w, x as u32), Outcome::Taken)
+    } else {
+        Pressed::new(w, Outcome::Flash)
     }
-    Pressed::flash(w)
 }
 
 fn lower(w: Work, c: Cell) -> Pressed
     ensures { result ≡ lowered c w }
 {
     if c.sets {
-        return Pressed::taken(with_chosen(w, c.low));
+        return Pressed::new(with_chosen(w, c.low), Outcome::Taken);
     }
     let x = chosen(w);
     let step = c.step as u64;
     if c.low as u64 + step <= x {
-        return Pressed::taken(with_chosen(w, (x - step) as u32));
+        Pressed::new(with_chosen(w, (x - step) as u32), Outcome::Taken)
+    } else {
+        Pressed::new(w, Outcome::Flash)
     }
-    Pressed::flash(w)
 }
 
 pub fn up(w: Work, p: Profile, c: Cell) -> Pressed
     ensures { result ≡ up_key p c w }
 {
     if p.fires {
-        return Pressed {
-            work: w,
-            outcome: Outcome::Fired,
-        };
+        Pressed::new(w, Outcome::Fired)
+    } else if p.slides {
+        Pressed::new(w, Outcome::Flash)
+    } else {
+        raise(w, c)
     }
-    if p.slides {
-        return Pressed::flash(w);
-    }
-    raise(w, c)
 }
 
 pub fn down(w: Work, p: Profile, c: Cell) -> Pressed
     ensures { result ≡ down_key p c w }
 {
     if p.fires {
-        return Pressed {
-            work: w,
-            outcome: Outcome::Fired,
-        };
+        Pressed::new(w, Outcome::Fired)
+    } else if p.slides {
+        Pressed::new(w, Outcome::Flash)
+    } else {
+        lower(w, c)
     }
-    if p.slides {
-        return Pressed::flash(w);
-    }
-    lower(w, c)
 }
 
-pub fn left(mut w: Work, p: Profile, c: Cell) -> Pressed
+pub fn left(w: Work, p: Profile, c: Cell) -> Pressed
     ensures { result ≡ left_key p c w }
 {
     if p.fires {
-        return Pressed {
-            work: w,
-            outcome: Outcome::Fired,
-        };
+        Pressed::new(w, Outcome::Fired)
+    } else if p.moves {
+        choose(w, w.at.checked_sub(1))
+    } else if p.slides {
+        lower(w, c)
+    } else {
+        Pressed::new(w, Outcome::Flash)
     }
-    if p.moves {
-        if 0 < w.at {
-            w.at = w.at - 1;
-            return Pressed::taken(w);
-        }
-        return Pressed::flash(w);
-    }
-    if p.slides {
-        return lower(w, c);
-    }
-    Pressed::flash(w)
 }
 
-pub fn right(mut w: Work, p: Profile, c: Cell) -> Pressed
+pub fn right(w: Work, p: Profile, c: Cell) -> Pressed
     ensures { result ≡ right_key p c w }
 {
     if p.fires {
-        return Pressed {
-            work: w,
-            outcome: Outcome::Fired,
-        };
+        Pressed::new(w, Outcome::Fired)
+    } else if p.moves {
+        choose(w, next_cell(w, p))
+    } else if p.slides {
+        raise(w, c)
+    } else {
+        Pressed::new(w, Outcome::Flash)
     }
-    if p.moves {
-        if w.at as usize + 1 < p.cells as usize {
-            w.at = w.at + 1;
-            return Pressed::taken(w);
-        }
-        return Pressed::flash(w);
-    }
-    if p.slides {
-        return raise(w, c);
-    }
-    Pressed::flash(w)
-}
-
-fn on_right(w: Work, p: Profile) -> u8
-    ensures { result ≡ on_right p w }
-{
-    if w.at as usize + 1 < p.cells as usize {
-        return w.at + 1;
-    }
-    w.at
 }
 
 // A digit key, 0 to 9.
@@ -179,57 +154,44 @@ pub fn digit(w: Work, p: Profile, c: Cell, d: u8) -> Pressed
     ensures { result ≡ digit_key p c w d }
 {
     if c.typed {
-        let mut next = with_chosen(w, d as u32);
-        next.at = on_right(w, p);
-        return Pressed::taken(next);
+        let at = next_cell(w, p).unwrap_or(w.at);
+        Pressed::new(
+            Work {
+                at,
+                ..with_chosen(w, d as u32)
+            },
+            Outcome::Taken,
+        )
+    } else {
+        Pressed::new(w, Outcome::Flash)
     }
-    Pressed::flash(w)
 }
 
-fn part_after(w: Work, p: Profile) -> bool
-    ensures { result ≡ part_after p w }
+// The part of a time or date after the chosen one, where there is one.
+fn next_part(w: Work, p: Profile) -> Option<u8>
+    ensures { SomeIff result (part_after p w ≡ true) (w.at + 1) }
 {
-    if p.parts {
-        return w.at as usize + 1 < p.cells as usize;
-    }
-    false
+    if p.parts { next_cell(w, p) } else { None }
 }
 
 // The chosen part, at most its high end.
 fn cap(w: Work, kind: Kind) -> Work
     ensures { result ≡ capped kind w }
 {
-    let c = cell_of(kind, w, w.at as usize);
-    let x = chosen(w);
-    let high = c.high as u64;
-    if x < high {
-        return with_chosen(w, x as u32);
-    }
-    with_chosen(w, c.high)
+    let high = cell_of(kind, w, w.at as usize).high;
+    with_chosen(w, chosen(w).min(high as u64) as u32)
 }
 
-pub fn enter(mut w: Work, kind: Kind) -> Pressed
+pub fn enter(w: Work, kind: Kind) -> Pressed
     ensures { result ≡ enter_key kind w }
 {
     let p = profile_of(kind);
     if p.fires {
-        return Pressed {
-            work: w,
-            outcome: Outcome::Passed,
-        };
+        return Pressed::new(w, Outcome::Passed);
     }
-    if part_after(w, p) {
-        w.at = w.at + 1;
-        return Pressed {
-            work: cap(w, kind),
-            outcome: Outcome::NextPart,
-        };
+    match next_part(w, p) {
+        Some(at) => Pressed::new(cap(Work { at, ..w }, kind), Outcome::NextPart),
+        None if w.stores(kind) => Pressed::new(w, Outcome::Done),
+        None => Pressed::new(w, Outcome::Flash),
     }
-    if w.stores(kind) {
-        return Pressed {
-            work: w,
-            outcome: Outcome::Done,
-        };
-    }
-    Pressed::flash(w)
 }

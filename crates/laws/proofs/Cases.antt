@@ -1,9 +1,9 @@
 -- Choices and conjunctions: case splits that follow a definition by tests, and rules that settle a choice by the facts of a branch.
-use Prim.Native.Nat.{ℕ, ◌≤◌, ◌<◌}
+use Prim.Native.Nat.{ℕ, ◌≤◌, ◌<◌, min}
 use mathlib.Core.Path.{◌≡◌, refl, sym, ◌∙◌}
 use mathlib.Core.Bool.{Bool, true, false, false≢true}
 use native.Mathlib.Omega.{arith}
-use borrow.Author.Tests.{eq-eqb, ne_eqb, lt-ltb, le-ltb, le-leb, lt-leb}
+use borrow.Author.Tests.{eq-eqb, ne_eqb, lt-ltb, le-ltb, le-leb, lt-leb, ltb-true, ltb-false}
 use Rattle.laws.specs.Choice.{when◌then◌else◌, ◌and◌, ◌=?◌, ◌<?◌, ◌≤?◌}
 
 -- a property of a choice: of the first where the test passes, of the second where it fails
@@ -101,3 +101,8 @@ pub if_min : (t : Bool) {x y m : ℕ} → m ≤ x → m ≤ y → m ≤ (when t 
 unfolding when◌then◌else◌
 if_min true p q = p
 if_min false p q = q
+
+-- the least of two numbers is a number chosen by a test
+pub min_when : (n m : ℕ) → min n m ≡ (when n <? m then n else m)
+min_when n m =
+    by_test (n <? m) (λ e. let h = ltb-true n m e in rw (if_lt n m n m h) (omega arith)) (λ e. let h = ltb-false n m e in rw (if_ge n m n m h) (omega arith))

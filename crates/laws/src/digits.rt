@@ -35,12 +35,10 @@ pub struct Digit {
 fn last_digit(x: u32) -> Digit
     ensures { (result.digit ≡ min 9 x) × (result.rest ≡ x - result.digit) }
 {
-    if x < 10 {
-        return Digit { digit: x, rest: 0 };
-    }
+    let digit = x.min(9);
     Digit {
-        digit: 9,
-        rest: x - 9,
+        digit,
+        rest: x - digit,
     }
 }
 
@@ -56,26 +54,21 @@ pub fn first_digit(x: u32, n: u8) -> Digit
         return Digit { digit: 0, rest: x };
     }
     let power = power_of_ten(n - 1);
-    let mut digit = 0;
     let mut rest = x;
-    while digit < 9 {
+    for digit in 0..9 {
         if rest < power {
             return Digit { digit, rest };
         }
-        rest = rest - power;
-        digit = digit + 1;
+        rest -= power;
     }
-    Digit { digit, rest }
+    Digit { digit: 9, rest }
 }
 
 // Whether n digits show a number.
 fn is_shown(x: u32, n: u8) -> bool
     ensures { result ≡ x <? 10 ^ n }
 {
-    if n < MOST {
-        return x < power_of_ten(n);
-    }
-    true
+    MOST <= n || x < power_of_ten(n)
 }
 
 // What the n lowest digits of a number show: the others are taken off, the first one first.
@@ -83,14 +76,11 @@ pub fn lowest_digits(x: u32, n: u8) -> u32
     ensures { result ≡ x % 10 ^ n }
 {
     let mut rest = x;
-    let shown = is_shown(x, n);
-    if shown {
+    if is_shown(x, n) {
         return rest;
     }
-    let mut digits = MOST;
-    while n < digits {
-        rest = first_digit(rest, digits).rest;
-        digits = digits - 1;
+    for others in (n..MOST).rev() {
+        rest = first_digit(rest, others + 1).rest;
     }
     rest
 }

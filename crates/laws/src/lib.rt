@@ -32,10 +32,7 @@ pub fn word_at(s: &[u8], at: usize) -> u16
 pub fn room(s: &[u8], at: usize, n: usize) -> bool
     ensures { result ≡ room (length s.now) at n }
 {
-    if at <= s.len() {
-        return n <= s.len() - at;
-    }
-    false
+    at <= s.len() && n <= s.len() - at
 }
 
 // Whether a list of so many numbers has a k-th triple, counted from 0; by subtracting, so that nothing
@@ -47,29 +44,15 @@ pub fn has_triple(count: usize, k: usize) -> bool
         return false;
     }
     let most = count - 3;
-    if most < k {
-        return false;
-    }
-    let rest = most - k;
-    if rest < k {
-        return false;
-    }
-    k <= rest - k
+    k <= most && k <= most - k && k <= most - k - k
 }
 
 // Copies bytes to a place; where they do not fit nothing changes.
 pub fn put_bytes(s: &mut [u8], at: usize, bytes: &[u8])
     ensures { s.new ≡ put_at at bytes.now s.old }
 {
-    if s.len() < at {
-        return;
-    }
-    if s.len() - at < bytes.len() {
-        return;
-    }
-    let mut i = 0;
-    while i < bytes.len() {
-        s[at + i] = bytes[i];
-        i = i + 1;
+    let n = bytes.len();
+    if room(s, at, n) {
+        s[at..at + n].copy_from_slice(bytes);
     }
 }

@@ -6,6 +6,7 @@ use borrow.Author.Tests.{lt-ltb, le-ltb, leb-true, leb-false}
 use Rattle.laws.specs.Choice.{◌<?◌, ◌≤?◌}
 use Rattle.laws.proofs.Cases.{by_test}
 use Rattle.laws.proofs.has_triple.Goals as goal
+use Rattle.laws.proofs.has_triple.Goals.{then-k-most, else-k-most}
 
 -- a test that says how 3 * k + 3 and the count stand
 by_order : (a b k count : ℕ) → (a ≤ b → 3 * k + 3 ≤ count) → (b < a → count < 3 * k + 3) → (a ≤? b) ≡ (k <? (count / 3))
@@ -17,12 +18,19 @@ by_order a b k count f g =
 pub returns-then-count-lt3 : goal.returns-then-count-lt3
 returns-then-count-lt3 c = sym (le-ltb c.args.k (c.args.count / 3) (omega arith))
 
-pub returns-then-most-k : goal.returns-then-most-k
-returns-then-most-k c = sym (le-ltb c.args.k (c.args.count / 3) (omega arith))
+pub returns-then-k-most-2 : goal.returns-then-k-most-2
+returns-then-k-most-2 c = let a = c.args in
+    elim c.if-k-most.branch [
+      | then-k-most w ↦ let h = leb-true a.k (a.count - 3 - a.k) (sym w.value-is ∙ c.if-k-most-2.true) in
+          by_order a.k (a.count - 3 - a.k - a.k) a.k a.count (λ f. omega arith) (λ f. omega arith)
+      | else-k-most w ↦ let h = leb-true a.k (a.count - 3) (sym w.value-is ∙ c.if-k-most-2.true) in
+          absurd (omega (arith, w.if-k-most.false))
+    ]
 
-pub returns-then-rest-k : goal.returns-then-rest-k
-returns-then-rest-k c = sym (le-ltb c.args.k (c.args.count / 3) (omega arith))
-
-pub returns : goal.returns
-returns c = let a = c.args in
-    by_order a.k (a.count - 3 - a.k - a.k) a.k a.count (λ h. omega arith) (λ h. omega arith)
+pub returns-else-k-most-2 : goal.returns-else-k-most-2
+returns-else-k-most-2 c = let a = c.args in
+    elim c.if-k-most.branch [
+      | then-k-most w ↦ let h = leb-false a.k (a.count - 3 - a.k) (sym w.value-is ∙ c.if-k-most-2.false) in
+          c.if-k-most-2.false ∙ sym (le-ltb a.k (a.count / 3) (omega arith))
+      | else-k-most w ↦ c.if-k-most-2.false ∙ sym (le-ltb a.k (a.count / 3) (omega (arith, w.if-k-most.false)))
+    ]

@@ -1,9 +1,8 @@
--- What is left has the year's place in the cycle, and is below the span's double; the measure is the turns to come.
+-- What is left has the year's place in the cycle, and is below the next span's double.
 use native.Mathlib.Omega.{arith}
-use Prim.Native.Nat.{ℕ, zero, suc, ◌-◌, ◌*◌, ◌^◌, ◌<◌}
-use mathlib.Core.Logic.{⊎_elim}
-use mathlib.Core.Path.{◌≡◌, refl}
-use native.Mathlib.Nat.{pow-suc}
+use Prim.Native.Nat.{ℕ, zero, suc, ◌-◌, ◌*◌, ◌%◌, ◌^◌, ◌≤◌, ◌<◌}
+use mathlib.Core.Path.{◌≡◌}
+use native.Mathlib.Nat.{pow-suc, pow-le-pow_right, mod-eq_of_lt}
 use Rattle.field.proofs.calendar.in_cycle.Goals as goal
 
 -- a power of 2 is twice the one before
@@ -11,12 +10,14 @@ halved : (n : ℕ) → 0 < n → 2 ^ n ≡ 2 * 2 ^ (n - 1)
 halved zero h = absurd (omega arith)
 halved (suc n) h = let e : suc n - 1 ≡ n = omega arith in rw (e, pow-suc) (omega arith)
 
-pub loop-turns-init : goal.loop-turns-init
-loop-turns-init c = (refl, omega arith, refl)
+-- the longest span fits
+span_is : (n : ℕ) → n ≤ 23 → (400 * 2 ^ n) % 4294967296 ≡ 400 * 2 ^ n
+span_is n h =
+    let p : 2 ^ n ≤ 2 ^ 23 = pow-le-pow_right (omega arith) {i = n} {j = 23} h in
+    mod-eq_of_lt (omega arith)
 
-pub loop-turns-preserved : goal.loop-turns-preserved
-loop-turns-preserved c = let h = halved c.loop-turns.turns (omega arith) in
-    ⊎_elim (λ w. (omega arith, omega arith, omega arith)) (λ w. (omega arith, omega arith, omega arith)) c.if-span-rest.branch-raw
-
-pub returns : goal.returns
-returns c = let z : c.loop-turns.turns ≡ 0 = omega arith in omega (arith, rw z at c.loop-turns.invariant)
+pub loop-turn-preserved-then-span-rest : goal.loop-turn-preserved-then-span-rest
+loop-turn-preserved-then-span-rest c = let n = c.loop-turn.turn in
+    let h = halved n (omega arith) in
+    let s = span_is (n - 1) (omega arith) in
+    rw s (omega arith, omega arith)

@@ -1,20 +1,15 @@
 -- The tests on the year's place in the cycle, each by its law (proofs/Calendars).
 use mathlib.Core.Path.{◌∙◌}
-use native.Mathlib.Omega.{arith}
-use Rattle.field.proofs.Calendars.{leap_not_fourth, leap_not_hundred, leap_other}
+use borrow.Author.Tests.{ne_eqb}
+use Rattle.field.proofs.Calendars.{leap_not_fourth, leap_hundred, leap_fourth}
 use Rattle.field.proofs.calendar.is_leap.Goals as goal
+use Rattle.field.proofs.calendar.is_leap.Goals.{in-100, in_default}
 
-pub returns-then-year-ne0 : goal.returns-then-year-ne0
-returns-then-year-ne0 c = leap_not_fourth _ c.if-year-ne0.true
+pub returns-after-matches : goal.returns-after-matches
+returns-after-matches c = elim c.match-matches.branch [
+  | in-100 w ↦ rw w.matches-is (leap_hundred _ _ c.in_cycle.ensures w.in-100.is)
+  | in_default w ↦ rw w.matches-is (search (leap_fourth, c.in_cycle.ensures, c.if-year-eq0.true))
+]
 
-pub returns-in-100 : goal.returns-in-100
-returns-in-100 c = leap_not_hundred _ (omega (arith, c.in_cycle.ensures, c.in-100.is)) (λ e. omega (arith, c.in_cycle.ensures, c.in-100.is))
-
-pub returns-in-200 : goal.returns-in-200
-returns-in-200 c = leap_not_hundred _ (omega (arith, c.in_cycle.ensures, c.in-200.is)) (λ e. omega (arith, c.in_cycle.ensures, c.in-200.is))
-
-pub returns-in-300 : goal.returns-in-300
-returns-in-300 c = leap_not_hundred _ (omega (arith, c.in_cycle.ensures, c.in-300.is)) (λ e. omega (arith, c.in_cycle.ensures, c.in-300.is))
-
-pub returns-in_default : goal.returns-in_default
-returns-in_default c = leap_other _ c.if-year-ne0.false (λ e. c.in_default.in_default-own.rest.0.0.1 (c.in_cycle.ensures ∙ e)) (λ e. c.in_default.in_default-own.rest.0.1 (c.in_cycle.ensures ∙ e)) (λ e. c.in_default.in_default-own.rest.1 (c.in_cycle.ensures ∙ e))
+pub returns-else-year-eq0 : goal.returns-else-year-eq0
+returns-else-year-eq0 c = ne_eqb _ _ c.if-year-eq0.false ∙ leap_not_fourth _ c.if-year-eq0.false

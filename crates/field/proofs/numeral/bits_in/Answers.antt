@@ -1,13 +1,8 @@
--- Each return is the case of the definition that the tests on its path choose.
-use native.Mathlib.Omega.{arith}
-use Rattle.laws.proofs.Cases.{choices}
+-- The least of two numbers is the one that the test chooses.
+use Rattle.laws.proofs.Cases.{min_when}
 use Rattle.field.specs.Formats.{bits_in}
 use Rattle.field.proofs.numeral.bits_in.Goals as goal
 
-pub returns-then-n-lt-MAX_BITS : goal.returns-then-n-lt-MAX_BITS
+pub returns : goal.returns
 unfolding bits_in
-returns-then-n-lt-MAX_BITS c = search (choices, arith)
-
-pub returns-else-n-lt-MAX_BITS : goal.returns-else-n-lt-MAX_BITS
-unfolding bits_in
-returns-else-n-lt-MAX_BITS c = search (choices, arith)
+returns c = rw c.min.ensures (min_when c.args.n 32)

@@ -1,33 +1,17 @@
--- The digits still to write, written onto the cells as they are, give the whole; the measure is their count.
+-- The digits still to write, written onto the cells as they are, give the whole.
 use native.Mathlib.Omega.{arith}
-use mathlib.Core.Path.{◌≡◌, refl, sym, ◌∙◌}
-use lib.ListN.{length-set}
+use mathlib.Core.Path.{◌≡◌, sym, ◌∙◌}
 use Rattle.laws.specs.Digits.{digits_of}
 use Rattle.laws.proofs.Overwriting.{over_nil}
 use Rattle.laws.proofs.Numerals.{digits_turn}
 use Rattle.field.proofs.numeral.write_binary.Goals as goal
 
-pub loop-left-init : goal.loop-left-init
-loop-left-init c = (refl, omega arith, refl)
-
-pub lowest-requires : goal.lowest-requires
-lowest-requires c = c.requires.0
-
-pub before_lowest-rest-requires : goal.before_lowest-rest-requires
-before_lowest-rest-requires c = c.requires.0
-
 pub loop-left-preserved : goal.loop-left-preserved
-loop-left-preserved c = let l = c.loop-left in (
-  rw (c.lowest.ensures, c.before_lowest-rest.ensures) (digits_turn _ _ l.left l.rest l.cells c.loop-left-test.true (omega arith)) ∙ l.invariant.0,
-  omega arith,
-  simp length-set l.invariant.2,
-)
-
-pub shape_of-cells : goal.shape_of-cells
-shape_of-cells c = c.loop-left.invariant.2
+loop-left-preserved c = let l = c.loop-left in
+    rw (c.lowest.ensures, c.before_lowest-rest.ensures) (digits_turn _ _ l.left l.rest l.cells c.loop-left-test.true (omega arith)) ∙ l.invariant
 
 pub returns : goal.returns
 unfolding digits_of
 returns c = let l = c.loop-left in
     let z : l.left ≡ 0 = omega arith in
-    sym (over_nil l.cells _) ∙ rw z at l.invariant.0
+    sym (over_nil l.cells _) ∙ rw z at l.invariant

@@ -1,13 +1,9 @@
--- The digits of what is left, written from the place reached on, give the whole; the measure is their count.
-use Prim.Native.Nat.{◌+◌, ◌^◌, ◌≤◌, ◌<◌}
+-- The digits of what is left, written from the place reached on, give the whole.
+use Prim.Native.Nat.{◌+◌, ◌-◌, ◌^◌, ◌<◌}
 use mathlib.Core.Path.{◌≡◌}
-use lib.ListN.{length}
 use Rattle.laws.specs.Overwrite.{over}
 use Rattle.laws.specs.Digits.{digits_of}
 use Rattle.field.proofs.numeral.write_decimal.Given as goal
 
-abbrev pub invariant-loop-left : goal.invariant-loop-left
-invariant-loop-left l = (over l.cells l.at (digits_of 10 l.left l.rest) ≡ over l.initial.cells l.start (digits_of 10 l.count l.x)) × (l.rest < 10 ^ l.left) × (l.at + l.left ≤ length l.initial.cells) × (length l.cells ≡ length l.initial.cells)
-
-abbrev pub decreases-loop-left : goal.decreases-loop-left
-decreases-loop-left l = l.left
+abbrev pub invariant-loop-i : goal.invariant-loop-i
+invariant-loop-i l = (over l.cells (l.start + l.i) (digits_of 10 (l.count - l.i) l.rest) ≡ over l.initial.cells l.start (digits_of 10 l.count l.x)) × (l.rest < 10 ^ (l.count - l.i))

@@ -5,4 +5,4 @@ use Rattle.field.proofs.profile.end_of.Goals as goal
 
 pub returns : goal.returns
 unfolding end_of
-returns c = λ long. simp (c.month_end.ensures, c.month_end-arg-2-1.given, c.month_end-arg-1.given, end_full)
+returns c = λ long. simp (c.month_end.ensures, end_full)

@@ -7,6 +7,6 @@ pub returns-then-is_open_day : goal.returns-then-is_open_day
 unfolding held_to when◌then◌else◌
 returns-then-is_open_day c = simp (c.day.ensures, ← c.is_open_day.ensures, c.if-is_open_day.true)
 
-pub returns : goal.returns
+pub returns-else-is_open_day : goal.returns-else-is_open_day
 unfolding held_to when◌then◌else◌
-returns c = simp (c.cell_of.ensures, ← c.is_open_day.ensures, c.if-is_open_day.false)
+returns-else-is_open_day c = simp (c.cell_of.ensures, ← c.is_open_day.ensures, c.if-is_open_day.false)

@@ -8,6 +8,6 @@ pub returns-then-x-lt32768 : goal.returns-then-x-lt32768
 unfolding counted_cells when◌then◌else◌
 returns-then-x-lt32768 c = simp (c.digit_count.ensures.0, lt-ltb _ _ c.if-x-lt32768.true)
 
-pub returns : goal.returns
+pub returns-else-x-lt32768 : goal.returns-else-x-lt32768
 unfolding counted_cells when◌then◌else◌
-returns c = simp (c.digit_count-2.ensures.0, le-ltb _ _ c.if-x-lt32768.false)
+returns-else-x-lt32768 c = simp (c.digit_count-else-x-lt32768.ensures.0, le-ltb _ _ c.if-x-lt32768.false)

@@ -20,6 +20,6 @@ pub returns-then-x-lt10000 : goal.returns-then-x-lt10000
 unfolding digit_count
 returns-then-x-lt10000 c = search (choices, arith)
 
-pub returns : goal.returns
+pub returns-else-x-lt10000 : goal.returns-else-x-lt10000
 unfolding digit_count
-returns c = search (choices, arith)
+returns-else-x-lt10000 c = search (choices, arith)

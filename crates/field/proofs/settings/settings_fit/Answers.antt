@@ -7,6 +7,6 @@ pub returns-then-kind_fits : goal.returns-then-kind_fits
 unfolding settings_fit ◌and◌
 returns-then-kind_fits c = simp (c.in_range.ensures, c.number.ensures, ← c.kind_fits.ensures, c.if-kind_fits.true)
 
-pub returns : goal.returns
+pub returns-else-kind_fits : goal.returns-else-kind_fits
 unfolding settings_fit ◌and◌
-returns c = simp (← c.kind_fits.ensures, c.if-kind_fits.false)
+returns-else-kind_fits c = simp (← c.kind_fits.ensures, c.if-kind_fits.false)

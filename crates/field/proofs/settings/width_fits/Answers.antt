@@ -4,10 +4,10 @@ use borrow.Author.Tests.{le-leb, lt-leb}
 use Rattle.field.specs.Settings.{width_fits}
 use Rattle.field.proofs.settings.width_fits.Goals as goal
 
-pub returns-then-low-s : goal.returns-then-low-s
+pub returns-then-counted_cells-s : goal.returns-then-counted_cells-s
 unfolding width_fits ◌and◌
-returns-then-low-s c = simp (← c.counted_cells-low.ensures, ← c.counted_cells-high.ensures, le-leb _ _ c.if-low-s.true)
+returns-then-counted_cells-s c = simp (← c.counted_cells.ensures, ← c.counted_cells-then-counted_cells-s.ensures, le-leb _ _ c.if-counted_cells-s.true)
 
-pub returns : goal.returns
+pub returns-else-counted_cells-s : goal.returns-else-counted_cells-s
 unfolding width_fits ◌and◌
-returns c = simp (← c.counted_cells-low.ensures, lt-leb _ _ c.if-low-s.false)
+returns-else-counted_cells-s c = simp (← c.counted_cells.ensures, lt-leb _ _ c.if-counted_cells-s.false)

@@ -8,6 +8,6 @@ pub returns-then-c-x : goal.returns-then-c-x
 unfolding within ◌and◌
 returns-then-c-x c = simp (le-leb _ _ c.if-c-x.true)
 
-pub returns : goal.returns
+pub returns-else-c-x : goal.returns-else-c-x
 unfolding within ◌and◌
-returns c = simp (lt-leb _ _ c.if-c-x.false)
+returns-else-c-x c = simp (lt-leb _ _ c.if-c-x.false)

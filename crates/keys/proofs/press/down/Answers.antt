@@ -5,12 +5,12 @@ use Rattle.keys.proofs.press.down.Goals as goal
 
 pub returns-then-p : goal.returns-then-p
 unfolding down_key when◌then◌else◌
-returns-then-p c = simp c.if-p.true
+returns-then-p c = simp (c.new.ensures, c.if-p.true)
 
 pub returns-then-p-2 : goal.returns-then-p-2
 unfolding down_key when◌then◌else◌
-returns-then-p-2 c = simp (c.flash.ensures, c.if-p.false, c.if-p-2.true)
+returns-then-p-2 c = simp (c.new-then-p-2.ensures, c.if-p.false, c.if-p-2.true)
 
-pub returns : goal.returns
+pub returns-else-p-2 : goal.returns-else-p-2
 unfolding down_key when◌then◌else◌
-returns c = simp (c.lower.ensures, c.if-p.false, c.if-p-2.false)
+returns-else-p-2 c = simp (c.lower.ensures, c.if-p.false, c.if-p-2.false)

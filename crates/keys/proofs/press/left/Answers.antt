@@ -1,27 +1,21 @@
 -- Each return is the case of the definition that the tests on its path choose.
-use Rattle.laws.proofs.Cases.{choices}
-use native.Mathlib.Omega.{arith}
 use Rattle.laws.specs.Choice.{when◌then◌else◌}
-use borrow.Author.Tests.{lt-ltb, le-ltb}
 use Rattle.keys.specs.Keys.{left_key}
+use Rattle.keys.proofs.Choosing.{chosen_left}
 use Rattle.keys.proofs.press.left.Goals as goal
 
 pub returns-then-p : goal.returns-then-p
 unfolding left_key when◌then◌else◌
-returns-then-p c = simp c.if-p.true
-
-pub returns-then-w-gt0 : goal.returns-then-w-gt0
-unfolding left_key when◌then◌else◌
-returns-then-w-gt0 c = simp (c.taken.ensures, c.if-p.false, c.if-p-2.true, lt-ltb _ _ c.if-w-gt0.true)
+returns-then-p c = simp (c.new.ensures, c.if-p.true)
 
 pub returns-then-p-2 : goal.returns-then-p-2
 unfolding left_key when◌then◌else◌
-returns-then-p-2 c = simp (c.flash.ensures, c.if-p.false, c.if-p-2.true, le-ltb _ _ c.if-w-gt0.false)
+returns-then-p-2 c = simp (c.if-p.false, c.if-p-2.true, ← chosen_left _ _ _ c.choose.ensures c.checked_sub.ensures)
 
 pub returns-then-p-3 : goal.returns-then-p-3
-unfolding left_key
-returns-then-p-3 c = search (choices, arith)
+unfolding left_key when◌then◌else◌
+returns-then-p-3 c = simp (c.lower.ensures, c.if-p.false, c.if-p-2.false, c.if-p-3.true)
 
-pub returns : goal.returns
-unfolding left_key
-returns c = search (choices, arith)
+pub returns-else-p-3 : goal.returns-else-p-3
+unfolding left_key when◌then◌else◌
+returns-else-p-3 c = simp (c.new-else-p-3.ensures, c.if-p.false, c.if-p-2.false, c.if-p-3.false)

@@ -6,12 +6,12 @@ use Rattle.keys.proofs.press.lower.Goals as goal
 
 pub returns-then-c : goal.returns-then-c
 unfolding lowered when◌then◌else◌
-returns-then-c c = simp (c.taken.ensures, c.with_chosen.ensures, c.if-c.true)
+returns-then-c c = simp (c.new.ensures, c.with_chosen.ensures, c.if-c.true)
 
 pub returns-then-c-step : goal.returns-then-c-step
 unfolding lowered when◌then◌else◌
-returns-then-c-step c = simp (c.taken-then-c-step.ensures, c.with_chosen-then-c-step.ensures, c.if-c.false, ← c.chosen-x.ensures.0, le-leb _ _ c.if-c-step.true)
+returns-then-c-step c = simp (c.new-then-c-step.ensures, c.with_chosen-then-c-step.ensures, c.if-c.false, ← c.chosen-x.ensures.0, le-leb _ _ c.if-c-step.true)
 
-pub returns : goal.returns
+pub returns-else-c-step : goal.returns-else-c-step
 unfolding lowered when◌then◌else◌
-returns c = simp (c.flash.ensures, c.if-c.false, ← c.chosen-x.ensures.0, lt-leb _ _ c.if-c-step.false)
+returns-else-c-step c = simp (c.new-else-c-step.ensures, c.if-c.false, ← c.chosen-x.ensures.0, lt-leb _ _ c.if-c-step.false)

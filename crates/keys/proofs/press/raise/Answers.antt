@@ -6,12 +6,12 @@ use Rattle.keys.proofs.press.raise.Goals as goal
 
 pub returns-then-c : goal.returns-then-c
 unfolding raised when◌then◌else◌
-returns-then-c c = simp (c.taken.ensures, c.with_chosen.ensures, c.if-c.true)
+returns-then-c c = simp (c.new.ensures, c.with_chosen.ensures, c.if-c.true)
 
 pub returns-then-x-c : goal.returns-then-x-c
 unfolding raised when◌then◌else◌
-returns-then-x-c c = simp (c.taken-then-x-c.ensures, c.with_chosen-then-x-c.ensures, c.if-c.false, ← c.chosen.ensures.0, le-leb _ _ c.if-x-c.true)
+returns-then-x-c c = simp (c.new-then-x-c.ensures, c.with_chosen-then-x-c.ensures, c.if-c.false, ← c.chosen.ensures.0, le-leb _ _ c.if-x-c.true)
 
-pub returns : goal.returns
+pub returns-else-x-c : goal.returns-else-x-c
 unfolding raised when◌then◌else◌
-returns c = simp (c.flash.ensures, c.if-c.false, ← c.chosen.ensures.0, lt-leb _ _ c.if-x-c.false)
+returns-else-x-c c = simp (c.new-else-x-c.ensures, c.if-c.false, ← c.chosen.ensures.0, lt-leb _ _ c.if-x-c.false)

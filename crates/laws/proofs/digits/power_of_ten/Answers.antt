@@ -6,8 +6,6 @@ use Rattle.laws.proofs.digits.power_of_ten.Goals as goal
 
 pub returns-in_default : goal.returns-in_default
 returns-in_default c =
-    let h = c.in_default.in_default-own.rest in
-    let some : 4 ≤ c.args.n = omega (arith, h.0.0.0.0.0.0.0.0.1, h.0.0.0.0.0.0.0.1, h.0.0.0.0.0.0.1, h.0.0.0.0.0.1) in
-    let most : 9 ≤ c.args.n = omega (arith, h.0.0.0.0.1, h.0.0.0.1, h.0.0.1, h.0.1, h.1) in
+    let most : 9 ≤ c.args.n = omega arith in
     let e : min c.args.n 9 ≡ 9 = omega arith in
     rw e refl

@@ -1,13 +1,8 @@
--- Each return is the case of the definition that the tests on its path choose.
-use native.Mathlib.Omega.{arith}
-use Rattle.laws.proofs.Cases.{choices}
+-- The least of two numbers is the one that the test chooses.
+use Rattle.laws.proofs.Cases.{min_when}
 use Rattle.field.specs.Formats.{digits_in}
 use Rattle.field.proofs.kind.Format.digits_in.Goals as goal
 
-pub returns-then-self-lt5 : goal.returns-then-self-lt5
+pub returns : goal.returns
 unfolding digits_in
-returns-then-self-lt5 c = search (choices, arith)
-
-pub returns-else-self-lt5 : goal.returns-else-self-lt5
-unfolding digits_in
-returns-else-self-lt5 c = search (choices, arith)
+returns c = rw c.min.ensures (min_when c.args.self.digits 5)

@@ -7,6 +7,6 @@ pub returns-then-self : goal.returns-then-self
 unfolding half_of when◌then◌else◌
 returns-then-self c = simp (c.limit.ensures, c.if-self.true)
 
-pub returns : goal.returns
+pub returns-else-self : goal.returns-else-self
 unfolding half_of when◌then◌else◌
-returns c = simp (c.limit-2.ensures, c.if-self.false)
+returns-else-self c = simp (c.limit-else-self.ensures, c.if-self.false)

@@ -10,4 +10,4 @@ pub overflow_sub-limit : goal.overflow_sub-limit
 overflow_sub-limit c = omega (arith, c.half-half.ensures, c.limit-limit.ensures, half_le c.args.self)
 
 pub returns : goal.returns
-returns c = simp (c.half-half.ensures, c.limit-limit.ensures, c.top-top.ensures, c.signs.ensures, c.digits_in.ensures, c.base.ensures, c.smaller.ensures, c.smaller-2.ensures)
+returns c = simp (c.half-half.ensures, c.limit-limit.ensures, c.top-top.ensures, c.signs.ensures, c.digits_in.ensures, c.base.ensures, c.min.ensures, c.min-2.ensures)

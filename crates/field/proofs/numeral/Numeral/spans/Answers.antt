@@ -12,6 +12,6 @@ pub returns-then-self-x : goal.returns-then-self-x
 unfolding spans
 returns-then-self-x c = search (choices, arith)
 
-pub returns : goal.returns
+pub returns-else-self-x : goal.returns-else-self-x
 unfolding spans
-returns c = search (choices, arith)
+returns-else-self-x c = search (choices, arith)

@@ -7,6 +7,6 @@ pub returns-then-minus : goal.returns-then-minus
 unfolding storable when◌then◌else◌
 returns-then-minus c = simp (← c.shown_by-m.ensures, ← c.minus.ensures, c.if-minus.true)
 
-pub returns : goal.returns
+pub returns-else-minus : goal.returns-else-minus
 unfolding storable when◌then◌else◌
-returns c = simp (← c.shown_by-m.ensures, ← c.minus.ensures, c.if-minus.false)
+returns-else-minus c = simp (← c.shown_by-m.ensures, ← c.minus.ensures, c.if-minus.false)

@@ -1,12 +1,10 @@
 -- Each return is the case of the definition that the tests on its path choose.
-use Rattle.laws.specs.Choice.{when◌then◌else◌}
-use Rattle.field.specs.Formats.{base_of}
+use native.Mathlib.Omega.{arith}
+use Rattle.field.proofs.Bounds.{base_le, base_ge}
 use Rattle.field.proofs.profile.Cell.digit.Goals as goal
 
-pub returns-then-f : goal.returns-then-f
-unfolding base_of when◌then◌else◌
-returns-then-f c = simp c.if-f.true
+pub overflow_cast-base : goal.overflow_cast-base
+overflow_cast-base c = omega (arith, c.base.ensures, base_le c.args.f)
 
-pub returns-else-f : goal.returns-else-f
-unfolding base_of when◌then◌else◌
-returns-else-f c = simp c.if-f.false
+pub overflow_sub-base : goal.overflow_sub-base
+overflow_sub-base c = omega (arith, c.base.ensures, base_ge c.args.f)

@@ -8,6 +8,6 @@ pub returns-then-i-signs : goal.returns-then-i-signs
 unfolding cell_of when◌then◌else◌
 returns-then-i-signs c = λ w. simp (c.flag.ensures, ← c.signs.ensures, lt-ltb _ _ c.if-i-signs.true)
 
-pub returns : goal.returns
+pub returns-else-i-signs : goal.returns-else-i-signs
 unfolding cell_of when◌then◌else◌
-returns c = λ w. simp (c.digit.ensures, ← c.signs.ensures, le-ltb _ _ c.if-i-signs.false)
+returns-else-i-signs c = λ w. simp (c.digit.ensures, ← c.signs.ensures, le-ltb _ _ c.if-i-signs.false)

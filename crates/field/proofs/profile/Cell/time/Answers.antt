@@ -6,5 +6,5 @@ use Rattle.field.proofs.profile.Cell.time.Goals as goal
 pub returns-then-i-eq0 : goal.returns-then-i-eq0
 returns-then-i-eq0 c = search (choices, arith)
 
-pub returns : goal.returns
-returns c = search (choices, arith)
+pub returns-else-i-eq0 : goal.returns-else-i-eq0
+returns-else-i-eq0 c = search (choices, arith)

@@ -6,5 +6,5 @@ use Rattle.field.proofs.profile.Cell.year.Goals as goal
 pub returns-then-long : goal.returns-then-long
 returns-then-long c = search (choices, arith)
 
-pub returns : goal.returns
-returns c = search (choices, arith)
+pub returns-else-long : goal.returns-else-long
+returns-else-long c = search (choices, arith)

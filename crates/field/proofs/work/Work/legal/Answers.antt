@@ -1,18 +1,15 @@
--- The answer so far is that of the cells passed; the measure is the count of cells to come.
-use native.Mathlib.Omega.{arith}
-use mathlib.Core.Path.{◌≡◌, refl}
-use native.Mathlib.Numerals.{add-one}
-use Rattle.field.specs.Cells.{all_within, legal}
+-- All of them are where the definition says so.
+use Rattle.std.proofs.Common.{rules, ℕ, ◌≡◌, ◌<◌, get_or, true}
+use Rattle.std.specs.Prelude.{IsTrue, ◌↔◌}
+use Rattle.std.proofs.iter.runs.Sources.{ranges}
+use Rattle.field.specs.Cells.{legal, within}
+use Rattle.field.specs.Profiles.{held_to}
+use Rattle.field.proofs.Legal.{all_test}
 use Rattle.field.proofs.work.Work.legal.Goals as goal
-
-pub loop-i-init : goal.loop-i-init
-unfolding all_within
-loop-i-init c = (refl, omega arith)
-
-pub loop-i-preserved : goal.loop-i-preserved
-unfolding all_within
-loop-i-preserved c = (simp (add-one, c.also_within-ok.ensures, c.loop-i.invariant.0), omega arith)
 
 pub returns : goal.returns
 unfolding legal
-returns c = let e : c.loop-i.i ≡ c.profile_of-count.result.cells = omega arith in simp (← c.profile_of-count.ensures, ← e, c.loop-i.invariant.0)
+returns c = let a = c.args in
+    let each : IsTrue c.all.result ↔ ((i : ℕ) → i < c.profile_of.result.cells → within (held_to a.kind a.self i) (get_or a.self.cells i 0) ≡ true) =
+    search (rules, ranges) in
+    rw (← c.profile_of.ensures) (all_test (held_to a.kind a.self) a.self.cells c.profile_of.result.cells c.all.result each.0 each.1)

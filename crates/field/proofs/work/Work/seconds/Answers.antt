@@ -7,6 +7,6 @@ pub returns-then-long : goal.returns-then-long
 unfolding when◌then◌else◌
 returns-then-long c = (simp (c.if-long.true, c.cell.ensures.0), omega (arith, c.cell.ensures.1))
 
-pub returns : goal.returns
+pub returns-else-long : goal.returns-else-long
 unfolding when◌then◌else◌
-returns c = (simp c.if-long.false, omega arith)
+returns-else-long c = (simp c.if-long.false, omega arith)

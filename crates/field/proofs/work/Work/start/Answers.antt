@@ -7,6 +7,6 @@ pub returns-then-in_range : goal.returns-then-in_range
 unfolding started when◌then◌else◌
 returns-then-in_range c = simp (c.showing.ensures, ← c.number-x.ensures, ← c.in_range.ensures, c.if-in_range.true)
 
-pub returns : goal.returns
+pub returns-else-in_range : goal.returns-else-in_range
 unfolding started when◌then◌else◌
-returns c = simp (c.showing-2.ensures, ← c.number-x.ensures, ← c.in_range.ensures, c.if-in_range.false, c.number.ensures)
+returns-else-in_range c = simp (c.showing-else-in_range.ensures, ← c.number-x.ensures, ← c.in_range.ensures, c.if-in_range.false, c.number.ensures)

@@ -1,7 +1,25 @@
 -- Each return is the case of the definition that the tests on its path choose.
+use Prim.Native.Nat.{ℕ}
+use mathlib.Core.Path.{◌≡◌, refl}
+use mathlib.Core.Bool.{true}
+use mathlib.Core.List.{List}
+use Rattle.field.specs.declared.kind.Kind.{Kind}
+use Rattle.field.specs.declared.kind.Format.{Format}
+use Rattle.field.specs.declared.kind.Kind.TheVariants.{Integer, Counter, Time, Date, Switch, Option, Trigger}
 use Rattle.field.specs.Cells.{stores}
 use Rattle.field.proofs.Bounds.{format_sound}
 use Rattle.field.proofs.work.Work.stores.Goals as goal
+
+-- every other kind can be stored
+others_store : (k : Kind) (cs : List ℕ) → ((f : Format) → k ≡ Integer f → ⊥) → true ≡ stores k cs
+unfolding stores
+others_store (Integer f) cs h = absurd (h f refl)
+others_store (Counter s) cs h = refl
+others_store (Time long) cs h = refl
+others_store (Date long) cs h = refl
+others_store (Switch n) cs h = refl
+others_store (Option n w) cs h = refl
+others_store Trigger cs h = refl
 
 pub storable-requires : goal.storable-requires
 storable-requires c = rw c.numeral.ensures (format_sound _)
@@ -10,26 +28,5 @@ pub returns-in-Integer : goal.returns-in-Integer
 unfolding stores
 returns-in-Integer c = simp (c.storable.ensures, c.numeral.ensures, c.in-Integer.is)
 
-pub returns-in-Counter : goal.returns-in-Counter
-unfolding stores
-returns-in-Counter c = simp c.in-Counter.is
-
-pub returns-in-Time : goal.returns-in-Time
-unfolding stores
-returns-in-Time c = simp c.in-Time.is
-
-pub returns-in-Date : goal.returns-in-Date
-unfolding stores
-returns-in-Date c = simp c.in-Date.is
-
-pub returns-in-Switch : goal.returns-in-Switch
-unfolding stores
-returns-in-Switch c = simp c.in-Switch.is
-
-pub returns-in-Option : goal.returns-in-Option
-unfolding stores
-returns-in-Option c = simp c.in-Option.is
-
-pub returns-in-Trigger : goal.returns-in-Trigger
-unfolding stores
-returns-in-Trigger c = simp c.in-Trigger.is
+pub returns-in_default : goal.returns-in_default
+returns-in_default c = others_store _ _ c.in_default.not-Integer
