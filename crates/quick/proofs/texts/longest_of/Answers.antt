@@ -1,5 +1,6 @@
 -- What is left of the texts makes the whole.
 use Rattle.quick.proofs.Pieces.{filling_first, filling_next, filled}
+use mathlib.Core.Path.{refl}
 use native.Mathlib.Omega.{arith}
 use Rattle.quick.proofs.texts.longest_of.Goals as goal
 
@@ -34,16 +35,7 @@ pub overflow_add-seen : goal.overflow_add-seen
 overflow_add-seen c = omega (arith, c.loop-at.invariant.0.1, c.requires.1)
 
 pub loop-at-preserved : goal.loop-at-preserved
-loop-at-preserved c = ((filling_next c.args.image.now c.args.from c.args.end c.args.count c.loop-at.at c.loop-at.seen c.loop-at.most c.longer-most.result c.requires.1 c.longer-most.ensures c.loop-at.invariant.0.0, omega (arith, c.loop-at.invariant.0.1)), omega (arith, c.longer-most.ensures, c.loop-at.invariant.1))
-
-pub returns-then-at-end : goal.returns-then-at-end
-returns-then-at-end c = λ e. absurd (omega arith)
-
-pub returns-then-seen-count : goal.returns-then-seen-count
-returns-then-seen-count c = λ e. absurd (omega arith)
-
-pub overflow_add-result : goal.overflow_add-result
-overflow_add-result c = omega (arith, c.loop-at.invariant.1, c.requires.1)
+loop-at-preserved c = ((filling_next c.args.image.now c.args.from c.args.end c.args.count c.loop-at.at c.loop-at.seen c.loop-at.most c.max-most.result _ (omega arith) c.requires.1 c.max-most.ensures c.loop-at.invariant.0.0, omega (arith, c.loop-at.invariant.0.1)), omega (arith, c.max-most.ensures, c.loop-at.invariant.1))
 
 pub returns : goal.returns
-returns c = λ _. filled _ _ _ _ _ _ _ _ (omega arith) (omega arith) (omega arith) c.loop-at.invariant.0.0
+returns c = filled _ _ _ _ _ _ _ _ (omega arith) (omega arith) refl c.loop-at.invariant.0.0
