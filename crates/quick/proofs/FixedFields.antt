@@ -21,7 +21,7 @@ use Rattle.field.specs.declared.record.Field.{Field}
 use Rattle.field.proofs.Calendars.{end_most}
 use Rattle.field.proofs.Fitting.{two_bytes, three_bytes, four_bytes, integer_fits, time_fits, date_fits}
 use Rattle.cmf.specs.Limits.{most_fields}
-use Rattle.cmf.specs.Layouts.{Component, integer_at, counter_settings_at, counter_at, time_long_at, time_short_at, date_long_at, date_short_at, trigger_at}
+use Rattle.cmf.specs.Layouts.{Component, integer_at, counter_settings_at, time_long_at, time_short_at, date_long_at, date_short_at, trigger_at}
 use Rattle.cmf.proofs.Shortcuts.{one_byte, short_bytes, long_bytes}
 use Rattle.quick.specs.declared.tally.Tally.{Tally}
 use Rattle.quick.specs.Accept.{Claimed, Claims, Held, Passes, fielded}

@@ -1,6 +1,6 @@
 // The components of a line in the quick walk, but options: a constant string is told here, a field in
 // `fixed`.
-ghost use Rattle.std.specs.Prelude.{◌≡◌, true, [], ◌*◌, ◌%◌, ◌<◌, ◌≤◌, length, IfSome};
+ghost use Rattle.std.specs.Prelude.{◌≡◌, true, [], ◌+◌, ◌*◌, ◌%◌, ◌<◌, ◌≤◌, length, IfSome};
 ghost use Rattle.laws.specs.Bytes.{byte_at};
 ghost use Rattle.cmf.specs.Readers.{even_from};
 ghost use Rattle.cmf.specs.Layouts.{Aligned, Component};
@@ -17,14 +17,11 @@ pub(crate) fn is_padded_to_even(image: &[u8], at: usize) -> bool
     at % 2 == 0 || image[at] == 0
 }
 
-// Where the constant string at a place ends.
+// Where the constant string at a place ends, whose length byte is there.
 pub(crate) fn string_end(image: &[u8], at: usize) -> Option<usize>
-    requires { (at < length image.now) × (byte_at image.now at % 64 ≡ 0x15) }
+    requires { (at + 1 < length image.now) × (byte_at image.now at % 64 ≡ 0x15) }
     ensures { IfSome result (λ end. Component image.now at end []) }
 {
-    if image.len() <= at + 1 {
-        return None;
-    }
     let end = at + 2 + image[at + 1] as usize;
     if image.len() < end {
         return None;
@@ -48,6 +45,9 @@ pub(crate) fn accept_component(
         return None;
     }
     if image[p] % 64 == 0x15 {
+        if image.len() <= p + 1 {
+            return None;
+        }
         return Some(w.past(string_end(image, p)?));
     }
     accept_field(image, extent, p, w, marks)

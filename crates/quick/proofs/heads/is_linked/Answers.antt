@@ -2,7 +2,6 @@
 use Prim.Native.Nat.{◌+◌}
 use mathlib.Core.Path.{◌≡◌, sym, ◌∙◌}
 use Rattle.cmf.specs.Grammar.{previous_at}
-use mathlib.Core.Bool.{false≢true}
 use borrow.Author.Tests.{eqb-true}
 use Rattle.quick.proofs.Pieces.{linked_first, linked_later}
 use native.Mathlib.Omega.{arith}
