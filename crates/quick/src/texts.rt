@@ -11,20 +11,21 @@ use field::kind::Kind;
 
 // The length of the longest of so many texts, one at least, that fill the bytes from one place up to another.
 fn longest_of(image: &[u8], from: usize, end: usize, count: u8) -> Option<usize>
-    requires { (from < length image.now) × (end ≤ length image.now) }
+    requires { (from < length image.now) × (end ≤ length image.now) × (1 ≤ count) }
     ensures { IfSome result (λ longest. Texts image.now count from end longest) }
 {
     let first = image[from] as usize;
     let mut at = from + 1 + first;
-    let mut seen = 1;
     let mut most = first;
-    while at < end {
+    for _ in 1..count {
+        if end <= at {
+            return None;
+        }
         let n = image[at] as usize;
         at += 1 + n;
         most = n.max(most);
-        seen += 1;
     }
-    if at != end || seen != count as usize {
+    if at != end {
         return None;
     }
     Some(most)
@@ -61,8 +62,8 @@ fn is_in_bits(x: usize, bits: u8) -> bool
 // Whether the switch at a place has a count of bits that it may have, and a default in them.
 fn switch_fits(image: &[u8], at: usize) -> bool
     requires { at + 14 ≤ length image.now }
-    ensures { result ≡ true → settings_fit (switch_at image.now at).kind
-        (switch_at image.now at).default ≡ true }
+    ensures { result ≡ true → (1 ≤ byte_at image.now (at + 7))
+        × (settings_fit (switch_at image.now at).kind (switch_at image.now at).default ≡ true) }
 {
     let bits = image[at + 7];
     let x = word_in(image, at + 10) + 65536 * word_in(image, at + 12);

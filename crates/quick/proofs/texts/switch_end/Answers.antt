@@ -13,6 +13,9 @@ overflow_cast-end c = omega (arith, c.type_inv.image (c.args.at + 6))
 pub overflow_add-end-2 : goal.overflow_add-end-2
 overflow_add-end-2 c = omega (arith, c.type_inv.image (c.args.at + 6))
 
+pub longest_of-requires : goal.longest_of-requires
+longest_of-requires c = (omega arith, omega arith, (c.switch_fits.ensures c.if-not-switch_fits.false).0)
+
 pub returns : goal.returns
 unfolding profile_of
-returns c = held _ (omega arith) (switch_is _ _ _ _ c.requires.1 (omega arith) (c.switch_fits.ensures c.if-not-switch_fits.false) refl c.in_ok-longest_of.ensures) refl refl
+returns c = held _ (omega arith) (switch_is _ _ _ _ c.requires.1 (omega arith) (c.switch_fits.ensures c.if-not-switch_fits.false).1 refl c.in_ok-longest_of.ensures) refl refl
