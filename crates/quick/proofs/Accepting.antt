@@ -17,11 +17,11 @@ use Rattle.cmf.proofs.Agreement.{Agree}
 use Rattle.cmf.proofs.Agreeing.{agree}
 use Rattle.quick.specs.declared.tally.Tally.{Tally}
 use Rattle.acceptance.specs.declared.index.Entry.{Entry}
-use Rattle.acceptance.specs.Check.{State, fine, and_then, padded, entry_of, on_component, on_components}
-use Rattle.quick.specs.Accept.{Claimed, Claims, Passes, Covers, AsFar, Reaches, PartsLeft, AmongParts}
+use Rattle.acceptance.specs.Check.{State, fine, and_then, entry_of, on_component, on_components}
+use Rattle.quick.specs.Accept.{Claimed, Claims, Passes, Covers, AsFar, Reaches, PartsLeft, AmongParts, past, fielded}
 use Rattle.acceptance.proofs.CameTo.{came_to, put}
 use Rattle.acceptance.proofs.Takes.{Takes, sheet_is}
-use Rattle.acceptance.proofs.Steps.{padded_reads, component_goes}
+use Rattle.acceptance.proofs.Steps.{component_goes}
 use Rattle.quick.proofs.Marks.{covers_apart, covers_kept, covers_add}
 
 -- ---- states that have come as far
@@ -62,10 +62,14 @@ module _ (im : List ℕ) where
 
   -- an option
   pub option_passes :
-      {extent p end from : ℕ} {v : Tally} {old new : List ℕ} (sure : Bool) → Component im p end (option_at im p ∷ []) → from ≡ word_at im (p + 4) → v.fields < most_fields → Claimed extent old new from 1 →
-      Passes im extent p v (record { sure = sure; at = end; lines = v.lines; fields = v.fields + 1 }) old new
+      {extent p end from : ℕ} {v : Tally} {old new : List ℕ} → Component im p end (option_at im p ∷ []) → from ≡ word_at im (p + 4) → v.fields < most_fields → Claimed extent old new from 1 →
+      Passes im extent p v (fielded v end) old new
   unfolding profile_of
-  option_passes {p = p} sure c e n k = record { fields = option_at im p ∷ []; component = c; lines = refl; claims = Claims.one n refl (rw e at k) }
+  option_passes {p = p} c e n k = record { fields = option_at im p ∷ []; component = c; lines = refl; claims = Claims.one n refl (rw e at k) }
+
+  -- a constant string
+  pub string_passes : {extent p end : ℕ} {v : Tally} {marks : List ℕ} → Component im p end [] → Passes im extent p v (past v end) marks marks
+  string_passes c = record { fields = []; component = c; lines = refl; claims = Claims.none refl refl }
 
   component_far :
       {extent : ℕ} {v w : Tally} {old new : List ℕ} (p : ℕ) (s : State) → extent ≤ longest_sheet → Aligned im 0 v.at p → Passes im extent p v w old new → AsFar v old s →
@@ -76,10 +80,6 @@ module _ (im : List ℕ) where
       far_at (on_component im extent most_fields p s) w.at v.lines (put es q.fields)
       (ap (on_component im extent most_fields p) t.is ∙ component_goes im A extent most_fields p w.at v.at v.lines es q.fields q.component a g)
       refl (sym q.lines) (claims_count es t.count q.claims) (claims_cover es t.covers q.claims)
-
-  -- padding before a place, as the grammar has it
-  pub even_place : (at p : ℕ) → p ≡ even_from at → p < length im → padded im at p ≡ true → Aligned im 0 at p
-  even_place at p e i z = A.even_aligned at p (record { is = e; zeroed = padded_reads im at p z }) i
 
   -- ---- the components of a line: those that are left, done to a state that has come as far, are the whole
 

@@ -1,10 +1,12 @@
 -- Where the quick walk has no doubt the check's walk comes as far: over heads, lines and tables, and from the top table to the answer.
 use Prim.Native.Nat.{ℕ, suc, ◌+◌, ◌-◌, ◌≤◌, ◌<◌}
 use mathlib.Core.Path.{◌≡◌, refl, sym, ap, ◌∙◌}
-use mathlib.Core.Bool.{true}
+use mathlib.Core.Bool.{true, false≢true}
 use mathlib.Core.List.{List}
 use native.Mathlib.Omega.{arith}
 use lib.ListN.{length}
+use Rattle.std.proofs.Common.{Option, Some, None}
+use Rattle.std.specs.Option.{is_some, IfSome}
 use Rattle.laws.specs.Choice.{when◌then◌else◌}
 use Rattle.laws.proofs.Cases.{if_true, if_false, if_eq}
 use Rattle.cmf.specs.Limits.{most_fields, most_lines_of_table, longest_sheet, deepest_table, prolog_bytes}
@@ -16,15 +18,11 @@ use Rattle.cmf.proofs.Agreement.{Agree, HeadReads}
 use Rattle.cmf.proofs.Agreeing.{agree}
 use Rattle.quick.specs.declared.tally.Tally.{Tally}
 use Rattle.acceptance.specs.Check.{State, on_components, on_head, on_title, on_submenu, on_body, on_line, on_lines, on_table, start, walked, prolog_code, checked, refusal_of}
-use Rattle.quick.specs.Accept.{Placed, Covers, AsFar, Reaches, titled, headed, AmongLines}
+use Rattle.quick.specs.Accept.{Placed, Covers, AsFar, Reaches, past, headed, AmongLines}
 use Rattle.acceptance.proofs.Steps.{title_goes, head_goes}
 use Rattle.acceptance.proofs.Line.{last_marked, more_marked, submenu_marked, plain_marked}
 use Rattle.acceptance.proofs.Tables.{lines_last, lines_more}
 use Rattle.quick.proofs.Accepting.{far_then, far_at}
-
--- the tally after a submenu
-abbrev pub returned : Tally → Tally → Tally
-returned body t = record { sure = t.sure; at = body.at; lines = t.lines; fields = t.fields }
 
 module _ (im : List ℕ) (extent : ℕ) where
   abbrev A : Agree im
@@ -81,7 +79,7 @@ module _ (im : List ℕ) (extent : ℕ) where
     }
 
     pub deep_line :
-        (below : ℕ) {r : Tally} {new : List ℕ} → has_submenu im p ≡ 1 → Reaches extent (table below (submenu_table im p)) b r mid new → Reaches extent (line below n before p) w (returned b r) old new
+        (below : ℕ) {r : Tally} {new : List ℕ} → has_submenu im p ≡ 1 → Reaches extent (table below (submenu_table im p)) b r mid new → Reaches extent (line below n before p) w (past r b.at) old new
     unfolding on_submenu when◌then◌else◌
     deep_line below {r} {new} z d = record {
       reach = λ s h t.
@@ -137,7 +135,7 @@ module _ (im : List ℕ) (extent : ℕ) where
 
   pub table_reaches :
       (t : ℕ) {left below : ℕ} {title : read-title.Title} {v w r : Tally} {old new : List ℕ} → left ≡ suc below → title ≡ title_at im t → title.refusal ≡ 0 →
-      v ≡ titled w title.end → Reaches extent (lines below title.line.0 0 0 (lines_from im (most_lines_of_table + 1) title.line.0)) v r old new →
+      v ≡ past w title.end → Reaches extent (lines below title.line.0 0 0 (lines_from im (most_lines_of_table + 1) title.line.0)) v r old new →
       Reaches extent (table left t) w r old new
   unfolding on_table lines_of
   table_reaches t {left} {below} {title} {w = w} e f z b c = record {
@@ -154,9 +152,10 @@ module _ (im : List ℕ) (extent : ℕ) where
   -- ---- the whole image
 
   pub nothing_refused :
-      (m new : List ℕ) (r : Tally) → extent ≤ longest_sheet → prolog_code im ≡ 0 →
-      Reaches extent (table deepest_table prolog_bytes) (record { sure = true; at = 0; lines = 0; fields = 0 }) r m new → refusal_of im extent ≡ 0
+      (m new : List ℕ) (r : Option Tally) → is_some r ≡ true → extent ≤ longest_sheet → prolog_code im ≡ 0 →
+      IfSome r (λ t. Reaches extent (table deepest_table prolog_bytes) (record { at = 0; lines = 0; fields = 0 }) t m new) → refusal_of im extent ≡ 0
   unfolding refusal_of checked walked
-  nothing_refused m new r h p c =
+  nothing_refused m new None e h p c = absurd (false≢true e)
+  nothing_refused m new (Some r) e h p c =
       let t = c.reach start h (record { is = refl; count = refl; covers = Covers.none }) in
       ap (λ (s : State). s.progress.refusal) (if_eq (prolog_code im) 0 _ _ p ∙ t.is)

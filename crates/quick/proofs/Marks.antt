@@ -124,7 +124,7 @@ module _ (extent : ℕ) (old new : List ℕ) (from i y : ℕ) (l : i / 64 < leng
       get_or_other : {k : ℕ} → (k ≡ i / 64 → ⊥) → (j : ℕ) → get_or new k 0 / 2 ^ (j % 64) % 2 ≡ 1 → get_or next k 0 / 2 ^ (j % 64) % 2 ≡ 1
       get_or_other {k} d j m = rw (get_or-set_other new (i / 64) k (bit_or (get_or new (i / 64) 0) y) 0 d) m
 
-  pub claimed_next : from ≤ i → i < extent → (mark_at new i ≡ 1 → ⊥) → Claimed extent old new from (i - from) → Claimed extent old next from ((i + 1) - from)
+  claimed_next : from ≤ i → i < extent → (mark_at new i ≡ 1 → ⊥) → Claimed extent old new from (i - from) → Claimed extent old next from ((i + 1) - from)
   claimed_next h s z c = record { inside = omega arith; free = free; marked = marked; kept = λ j m. stays j (c.kept j m) }
     where
       free : (j : ℕ) → from ≤ j → j < from + ((i + 1) - from) → mark_at old j ≡ 1 → ⊥
@@ -138,6 +138,20 @@ module _ (extent : ℕ) (old new : List ℕ) (from i y : ℕ) (l : i / 64 < leng
           by_test (i =? j)
           (λ e. rw (← eqb-true i j e) here)
           (λ e. let q = eqb-false i j e in stays j (c.marked j a (omega arith)))
+
+-- the bytes so far, and one more by itself
+pub claimed_then :
+    {extent : ℕ} {old mid new : List ℕ} {from i : ℕ} → from ≤ i → Claimed extent old mid from (i - from) → Claimed extent mid new i 1 → Claimed extent old new from ((i + 1) - from)
+claimed_then {extent} {old} {mid} {new} {from} {i} h c d = record {
+  inside = omega (arith, d.inside);
+  free = λ j a b m. by_test (i ≤? j)
+      (λ e. let l = leb-true i j e in d.free j l (omega arith) (c.kept j m))
+      (λ e. let l = leb-false i j e in c.free j a (omega arith) m);
+  marked = λ j a b. by_test (i ≤? j)
+      (λ e. let l = leb-true i j e in d.marked j l (omega arith))
+      (λ e. let l = leb-false i j e in d.kept j (c.marked j a (omega arith)));
+  kept = λ j m. d.kept j (c.kept j m);
+}
 
 -- one byte by itself
 pub claimed_one :

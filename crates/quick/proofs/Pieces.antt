@@ -51,19 +51,19 @@ module _ (im : List ℕ) where
   filling_start from end count = record { fill = λ _ _ l t. let z : max 0 l ≡ l = omega arith in let n : count - 0 ≡ count = omega arith in rw z (rw n at t) }
 
   pub filling_next :
-      (from end count at seen most next : ℕ) → end ≤ length im → next ≡ max (byte_at im at) most → Filling from end count at seen most →
-      Filling from end count (at + 1 + byte_at im at) (seen + 1) next
-  filling_next from end count at seen most next i e f = record {
+      (from end count at seen most next mid : ℕ) → mid ≡ at + 1 + byte_at im at → end ≤ length im → next ≡ max (byte_at im at) most → Filling from end count at seen most →
+      Filling from end count mid (seen + 1) next
+  filling_next from end count at seen most next mid u i e f = record {
     fill = λ a s l t.
         let z : count - seen ≡ suc (count - (seen + 1)) = omega arith in
         let m : max next l ≡ max most (max (byte_at im at) l) = omega arith in
         rw m (f.fill (omega arith) (omega arith) (max (byte_at im at) l)
-        (rw z (Texts.more (at + 1 + byte_at im at) (record { ends = refl; inside = omega arith }) t)));
+        (rw z (Texts.more mid (record { ends = u; inside = omega arith }) t)));
   }
 
   -- the first of them
   pub filling_first : (from end count : ℕ) → end ≤ length im → Filling from end count (from + 1 + byte_at im from) 1 (byte_at im from)
-  filling_first from end count i = filling_next from end count from 0 0 (byte_at im from) i (omega arith) (filling_start from end count)
+  filling_first from end count i = filling_next from end count from 0 0 (byte_at im from) (from + 1 + byte_at im from) refl i (omega arith) (filling_start from end count)
 
   pub filled : (from end count at seen most longest : ℕ) → at ≡ end → seen ≡ count → most ≡ longest → Filling from end count at seen most → Texts im count from end longest
   filled from end count at seen most longest a z m f =

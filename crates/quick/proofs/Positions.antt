@@ -15,7 +15,7 @@ use Rattle.cmf.specs.Grammar.{Head, password_at, is_last, has_submenu, next_line
 use Rattle.cmf.proofs.Agreeing.{agree}
 use Rattle.quick.specs.declared.tally.Tally.{Tally}
 use Rattle.quick.specs.declared.position.Position.{Position}
-use Rattle.quick.specs.Accept.{Placed, Passes, Reaches, headed, AmongLines, Along, Moves, Next, Leaves}
+use Rattle.quick.specs.Accept.{Placed, Passes, Reaches, past, headed, AmongLines, Along, Moves, Next, Leaves}
 use Rattle.acceptance.proofs.CameTo.{clash}
 use Rattle.quick.proofs.Accepting as parts
 use Rattle.quick.proofs.AcceptingTables as tables
@@ -125,7 +125,7 @@ module _ (im : List ℕ) (extent : ℕ) where
 
   pub leaves_deep :
       {below line : ℕ} {w t : Tally} {mid new : List ℕ} → has_submenu im line ≡ 1 → Reaches extent (tables.table im extent below (submenu_table im line)) w t mid new →
-      Leaves im extent below line w (tables.returned w t) mid new
+      Leaves im extent below line w (past t w.at) mid new
   leaves_deep {below} z d = record { leave = λ few q c. tables.deep_line im extent few q c below z d }
 
   -- a line that is done, with its submenu: the lines after it, or the table

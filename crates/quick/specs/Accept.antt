@@ -56,6 +56,7 @@ pub record Passes (im : List ℕ) (extent p : ℕ) (v w : Tally) (old new : List
 
 -- a field that the grammar has, with its place in the sheet after the call address, and so many bytes there
 pub record Held (im : List ℕ) (at end size : ℕ) : Type 0 where
+  pub inside : at + 6 ≤ length im
   pub field : Field
   pub component : Component im at end (field ∷ [])
   pub place : field.sheet.0 ≡ word_at im (at + 4)
@@ -80,13 +81,17 @@ pub record AsFar (w : Tally) (marks : List ℕ) (s : State) : Type 0 where
 pub record Reaches (extent : ℕ) (stretch : State → State) (v w : Tally) (old new : List ℕ) : Type 0 where
   pub reach : (s : State) → extent ≤ longest_sheet → AsFar v old s → AsFar w new (stretch s)
 
--- the tally after a title that ends at a place
-abbrev pub titled : Tally → ℕ → Tally
-titled w end = record { sure = true; at = end; lines = w.lines; fields = w.fields }
+-- the tally after a title or a constant string that ends at a place
+abbrev pub past : Tally → ℕ → Tally
+past w end = record { at = end; lines = w.lines; fields = w.fields }
 
 -- and after a head
 abbrev pub headed : Tally → ℕ → Tally
-headed w end = record { sure = true; at = end; lines = w.lines + 1; fields = w.fields }
+headed w end = record { at = end; lines = w.lines + 1; fields = w.fields }
+
+-- and after a field
+abbrev pub fielded : Tally → ℕ → Tally
+fielded w end = record { at = end; lines = w.lines; fields = w.fields + 1 }
 
 -- all components of a line, from the one at a place on, done to a state: they are those that are left, done
 -- to a state that has come as far as a tally

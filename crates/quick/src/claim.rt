@@ -13,21 +13,13 @@ pub(crate) fn claim(marks: &mut [u64], extent: usize, from: usize, size: usize) 
     requires { extent ≤ 64 * length marks.old }
     ensures { result ≡ true → Claimed extent marks.old marks.new from size }
 {
-    if extent < from {
+    if extent < from || extent - from < size {
         return false;
     }
-    if extent - from < size {
-        return false;
-    }
-    let end = from + size;
-    let mut i = from;
-    while i < end {
-        let word = marks[i / 64];
-        if (word >> (i % 64)) % 2 == 1 {
+    for i in from..from + size {
+        if !claim_byte(marks, extent, i) {
             return false;
         }
-        marks[i / 64] = word | (1 << (i % 64));
-        i = i + 1;
     }
     true
 }

@@ -1,13 +1,10 @@
 // Fields of the quick walk, but options: integers, counters, times, dates and triggers, which have no texts,
 // are told here by a few tests on their bytes.
-ghost use Rattle.std.specs.Prelude.{◌≡◌, true, [], ◌∷◌, ◌+◌, ◌*◌, ◌%◌, ◌<◌, ◌≤◌, length};
+ghost use Rattle.std.specs.Prelude.{◌≡◌, true, [], ◌∷◌, ◌+◌, ◌*◌, ◌%◌, ◌<◌, ◌≤◌, ◌⊎◌, length, IfSome};
 ghost use Rattle.laws.specs.Bytes.{byte_at, word_at};
 ghost use Rattle.field.specs.Calendar.{month_end};
-ghost use Rattle.field.specs.Cells.{biased, in_range};
-ghost use Rattle.field.specs.Settings.{step_fits, width_fits};
-ghost use Rattle.field.specs.declared.kind.Kind.TheVariants.{Counter};
-ghost use Rattle.cmf.specs.Layouts.{Component, integer_at, counter_settings_at, counter_at, time_long_at};
-ghost use Rattle.cmf.specs.Layouts.{time_short_at, date_long_at, date_short_at, trigger_at};
+ghost use Rattle.field.specs.Cells.{biased};
+ghost use Rattle.cmf.specs.Layouts.{Component, counter_settings_at, trigger_at};
 ghost use Rattle.quick.specs.Accept.{Held, Passes};
 
 use crate::claim::claim;
@@ -16,164 +13,88 @@ use crate::tally::Tally;
 use crate::texts::switch_end;
 use cmf::image::Image;
 use field::calendar::month_end;
-use field::kind::Kind;
+use field::kind::{CounterSettings, Kind};
 use field::numeral::is_in_code;
-use field::settings::counted_cells;
+use field::settings::settings_fit;
+use field::value::value_at;
 
-// Where the integer of one byte at a place ends; 0 in doubt.
-fn byte_end(image: &[u8], at: usize, code: usize) -> usize
-    requires { (at < length image.now) × ((byte_at image.now at % 32 ≡ code) × (code ≤ 0x04)) }
-    ensures { 0 < result → (at + 6 ≤ length image.now)
-        × Component image.now at result (integer_at image.now at ∷ []) }
+// The number of one byte or of two at a place.
+fn number_in(image: &[u8], at: usize, size: usize) -> usize
+    requires inside { at + size ≤ length image.now }
+    requires sizes { (1 ≤ size) × (size ≤ 2) }
+    ensures byte { size ≡ 1 → result ≡ byte_at image.now at }
+    ensures word { size ≡ 2 → result ≡ word_at image.now at }
 {
-    let end = at + 7;
-    if image.len() < end {
-        return 0;
+    if size == 1 {
+        return image[at] as usize;
     }
-    let fits = is_in_code(code, image[at + 6] as usize);
-    if fits {
-        return end;
-    }
-    0
+    word_in(image, at)
 }
 
-// Where the integer of two bytes at a place ends; 0 in doubt.
-fn word_end(image: &[u8], at: usize, code: usize) -> usize
-    requires { (at < length image.now)
-        × ((byte_at image.now at % 32 ≡ code) × ((0x04 < code) × (code ≤ 0x0a))) }
-    ensures { 0 < result → (at + 6 ≤ length image.now)
-        × Component image.now at result (integer_at image.now at ∷ []) }
+// Where the integer at a place ends, whose code gives it one byte or two.
+fn integer_end(image: &[u8], at: usize, code: usize, size: usize) -> Option<usize>
+    requires tag { (at < length image.now) × (byte_at image.now at % 32 ≡ code) }
+    requires sizes { ((size ≡ 1) × (code ≤ 0x04)) ⊎ ((size ≡ 2) × (0x04 < code) × (code ≤ 0x0a)) }
+    ensures { IfSome result (λ end. Held image.now at end size) }
 {
-    let end = at + 8;
-    if image.len() < end {
-        return 0;
+    let end = at + 6 + size;
+    if image.len() < end || !is_in_code(code, number_in(image, at + 6, size)) {
+        return None;
     }
-    let fits = is_in_code(code, word_in(image, at + 6));
-    if fits {
-        return end;
-    }
-    0
+    Some(end)
 }
 
 // The signed number at a place, with 32,768 added.
-fn biased_in(image: &[u8], at: usize) -> usize
+fn biased_in(image: &[u8], at: usize) -> u16
     requires { at + 1 < length image.now }
-    ensures { (result ≡ biased (word_at image.now at)) × (result < 65536) }
+    ensures { result ≡ biased (word_at image.now at) }
 {
-    (word_in(image, at) + 32768) % 65536
+    ((word_in(image, at) + 32768) % 65536) as u16
 }
 
-// Whether the default of the counter at a place is in its range.
-fn counter_in_range(image: &[u8], at: usize) -> bool
+fn counter_settings(image: &[u8], at: usize) -> CounterSettings
     requires { at + 15 ≤ length image.now }
-    ensures { result ≡ in_range (Counter (counter_settings_at image.now at))
-        (word_at image.now (at + 12)) }
+    ensures { result ≡ counter_settings_at image.now at }
 {
-    let x = biased_in(image, at + 12);
-    if biased_in(image, at + 6) <= x {
-        return x <= biased_in(image, at + 8);
+    CounterSettings {
+        min: biased_in(image, at + 6),
+        max: biased_in(image, at + 8),
+        step: word_in(image, at + 10) as u16,
+        width: image[at + 14],
     }
-    false
 }
 
-// Whether the step of the counter at a place is at least 1, as a signed number.
-fn step_fits(image: &[u8], at: usize) -> bool
-    requires { at + 15 ≤ length image.now }
-    ensures { result ≡ step_fits (counter_settings_at image.now at) }
-{
-    let step = word_in(image, at + 10);
-    if 1 <= step {
-        return step < 32768;
-    }
-    false
-}
-
-// Whether the width of the counter at a place is enough for min and for max.
-fn width_fits(image: &[u8], at: usize) -> bool
-    requires { at + 15 ≤ length image.now }
-    ensures { result ≡ width_fits (counter_settings_at image.now at) }
-{
-    let width = image[at + 14];
-    let low = counted_cells(biased_in(image, at + 6) as u16);
-    let high = counted_cells(biased_in(image, at + 8) as u16);
-    if low <= width {
-        return high <= width;
-    }
-    false
-}
-
-// Where the counter at a place ends; 0 in doubt.
-fn counter_end(image: &[u8], at: usize) -> usize
+// Where the counter at a place ends.
+fn counter_end(image: &[u8], at: usize) -> Option<usize>
     requires { (at < length image.now) × (byte_at image.now at % 32 ≡ 0x0d) }
-    ensures { 0 < result → (at + 6 ≤ length image.now)
-        × Component image.now at result (counter_at image.now at ∷ []) }
+    ensures { IfSome result (λ end. Held image.now at end 2) }
 {
     let end = at + 15;
     if image.len() < end {
-        return 0;
+        return None;
     }
-    let ranged = counter_in_range(image, at);
-    if !ranged {
-        return 0;
+    let kind = Kind::Counter(counter_settings(image, at));
+    if !settings_fit(kind, value_at(image, at + 12, 2)) {
+        return None;
     }
-    let stepped = step_fits(image, at);
-    if !stepped {
-        return 0;
-    }
-    let shown = width_fits(image, at);
-    if shown {
-        return end;
-    }
-    0
+    Some(end)
 }
 
-// Whether hours and minutes of the time at a place are in range.
-fn time_fits(image: &[u8], at: usize) -> bool
-    requires { at + 8 ≤ length image.now }
-    ensures { result ≡ true → (byte_at image.now (at + 6) ≤ 23)
-        × (byte_at image.now (at + 7) ≤ 59) }
+// Where the time at a place ends, which has three bytes with seconds and two without.
+fn time_end(image: &[u8], at: usize, size: usize) -> Option<usize>
+    requires inside { at < length image.now }
+    requires sizes { ((size ≡ 3) × (byte_at image.now at % 32 ≡ 0x0f))
+        ⊎ ((size ≡ 2) × (byte_at image.now at % 32 ≡ 0x10)) }
+    ensures { IfSome result (λ end. Held image.now at end size) }
 {
-    if Kind::MAX_HOUR < image[at + 6] {
-        return false;
+    let end = at + 6 + size;
+    if image.len() < end || Kind::MAX_HOUR < image[at + 6] || Kind::MAX_MINUTE < image[at + 7] {
+        return None;
     }
-    image[at + 7] <= Kind::MAX_MINUTE
-}
-
-// Where the time with seconds at a place ends; 0 in doubt.
-fn time_long_end(image: &[u8], at: usize) -> usize
-    requires { (at < length image.now) × (byte_at image.now at % 32 ≡ 0x0f) }
-    ensures { 0 < result → (at + 6 ≤ length image.now)
-        × Component image.now at result (time_long_at image.now at ∷ []) }
-{
-    let end = at + 9;
-    if image.len() < end {
-        return 0;
+    if size == 3 && Kind::MAX_SECOND < image[at + 8] {
+        return None;
     }
-    if Kind::MAX_SECOND < image[at + 8] {
-        return 0;
-    }
-    let fits = time_fits(image, at);
-    if fits {
-        return end;
-    }
-    0
-}
-
-// Where the time without seconds at a place ends; 0 in doubt.
-fn time_short_end(image: &[u8], at: usize) -> usize
-    requires { (at < length image.now) × (byte_at image.now at % 32 ≡ 0x10) }
-    ensures { 0 < result → (at + 6 ≤ length image.now)
-        × Component image.now at result (time_short_at image.now at ∷ []) }
-{
-    let end = at + 8;
-    if image.len() < end {
-        return 0;
-    }
-    let fits = time_fits(image, at);
-    if fits {
-        return end;
-    }
-    0
+    Some(end)
 }
 
 // Whether the date at a place, of a year that is in range, has a month and a day of that month. A short year
@@ -186,127 +107,65 @@ fn date_fits(image: &[u8], at: usize, year: usize) -> bool
         ≤ month_end year (byte_at image.now (at + 7)))) }
 {
     let month = image[at + 7];
-    if month < 1 {
-        return false;
-    }
-    if Kind::MAX_MONTH < month {
-        return false;
-    }
     let day = image[at + 6];
-    if day < 1 {
+    if month < 1 || Kind::MAX_MONTH < month || day < 1 {
         return false;
     }
     day as u32 <= month_end(year as u32, month as u32)
 }
 
-// Where the date with a year of two bytes at a place ends; 0 in doubt.
-fn date_long_end(image: &[u8], at: usize) -> usize
-    requires { (at < length image.now) × (byte_at image.now at % 32 ≡ 0x11) }
-    ensures { 0 < result → (at + 6 ≤ length image.now)
-        × Component image.now at result (date_long_at image.now at ∷ []) }
+// Where the date at a place ends, which has four bytes with a year of two of them and three with one of one.
+fn date_end(image: &[u8], at: usize, size: usize) -> Option<usize>
+    requires inside { at < length image.now }
+    requires sizes { ((size ≡ 4) × (byte_at image.now at % 32 ≡ 0x11))
+        ⊎ ((size ≡ 3) × (byte_at image.now at % 32 ≡ 0x12)) }
+    ensures { IfSome result (λ end. Held image.now at end size) }
 {
-    let end = at + 10;
+    let end = at + 6 + size;
     if image.len() < end {
-        return 0;
+        return None;
     }
-    let year = word_in(image, at + 8);
-    if (Kind::MAX_YEAR as usize) < year {
-        return 0;
+    let year = number_in(image, at + 8, size - 2);
+    let last = if size == 4 {
+        Kind::MAX_YEAR as usize
+    } else {
+        Kind::MAX_SHORT_YEAR as usize
+    };
+    if last < year || !date_fits(image, at, year) {
+        return None;
     }
-    let fits = date_fits(image, at, year);
-    if fits {
-        return end;
-    }
-    0
+    Some(end)
 }
 
-// Where the date with a year of one byte at a place ends; 0 in doubt.
-fn date_short_end(image: &[u8], at: usize) -> usize
-    requires { (at < length image.now) × (byte_at image.now at % 32 ≡ 0x12) }
-    ensures { 0 < result → (at + 6 ≤ length image.now)
-        × Component image.now at result (date_short_at image.now at ∷ []) }
-{
-    let end = at + 9;
-    if image.len() < end {
-        return 0;
-    }
-    let year = image[at + 8];
-    if Kind::MAX_SHORT_YEAR < year {
-        return 0;
-    }
-    let fits = date_fits(image, at, year as usize);
-    if fits {
-        return end;
-    }
-    0
-}
-
-// Where a field ends in the image, 0 in doubt, and how many bytes it has in the sheet.
-#[derive(Clone, Copy)]
-struct Measure {
-    end: usize,
-    size: usize,
-}
-
-// A field, no option, that has bytes in the sheet.
-fn measure_of(image: &[u8], at: usize) -> Measure
+// Where a field, no option, ends in the image, and how many bytes it has in the sheet.
+fn measure_of(image: &[u8], at: usize) -> Option<(usize, usize)>
     requires { at < length image.now }
-    ensures { 0 < result.end → (at + 6 ≤ length image.now)
-        × Held image.now at result.end result.size }
+    ensures { IfSome result (λ m. Held image.now at m.0 m.1) }
 {
     let code = (image[at] % 32) as usize;
-    if code <= 0x04 {
-        return Measure {
-            end: byte_end(image, at, code),
-            size: 1,
-        };
-    }
-    if code <= 0x0a {
-        return Measure {
-            end: word_end(image, at, code),
-            size: 2,
-        };
-    }
     match code {
-        0x0d => Measure {
-            end: counter_end(image, at),
-            size: 2,
-        },
-        0x0f => Measure {
-            end: time_long_end(image, at),
-            size: 3,
-        },
-        0x10 => Measure {
-            end: time_short_end(image, at),
-            size: 2,
-        },
-        0x11 => Measure {
-            end: date_long_end(image, at),
-            size: 4,
-        },
-        0x12 => Measure {
-            end: date_short_end(image, at),
-            size: 3,
-        },
-        0x13 => Measure {
-            end: switch_end(image, at),
-            size: 4,
-        },
-        _ => Measure { end: 0, size: 0 },
+        0x00..=0x04 => Some((integer_end(image, at, code, 1)?, 1)),
+        0x05..=0x0a => Some((integer_end(image, at, code, 2)?, 2)),
+        0x0d => Some((counter_end(image, at)?, 2)),
+        0x0f => Some((time_end(image, at, 3)?, 3)),
+        0x10 => Some((time_end(image, at, 2)?, 2)),
+        0x11 => Some((date_end(image, at, 4)?, 4)),
+        0x12 => Some((date_end(image, at, 3)?, 3)),
+        0x13 => Some((switch_end(image, at)?, 4)),
+        _ => None,
     }
 }
 
-// Where the trigger at a place ends; 0 in doubt.
-fn trigger_end(image: &[u8], at: usize) -> usize
+// Where the trigger at a place ends.
+fn trigger_end(image: &[u8], at: usize) -> Option<usize>
     requires { (at < length image.now) × (byte_at image.now at % 32 ≡ 0x17) }
-    ensures { 0 < result
-        → Component image.now at result (trigger_at image.now at ∷ []) }
+    ensures { IfSome result (λ end. Component image.now at end (trigger_at image.now at ∷ [])) }
 {
     let end = at + 4;
     if image.len() < end {
-        return 0;
+        return None;
     }
-    end
+    Some(end)
 }
 
 // A field, no option, if there may be one more. A trigger has no bytes in the sheet to claim.
@@ -316,32 +175,19 @@ pub(crate) fn accept_field(
     p: usize,
     w: Tally,
     marks: &mut [u64],
-) -> Tally
+) -> Option<Tally>
     requires { (p < length image.now) × (extent ≤ 64 * length marks.old) }
-    ensures { result.sure ≡ true → Passes image.now extent p w result marks.old
-        marks.new }
+    ensures { IfSome result (λ t. Passes image.now extent p w t marks.old marks.new) }
 {
     if Image::MAX_FIELDS <= w.fields {
-        return Tally::doubt();
+        return None;
     }
     if image[p] % 32 == 0x17 {
-        let end = trigger_end(image, p);
-        return Tally {
-            sure: 0 < end,
-            at: end,
-            lines: w.lines,
-            fields: w.fields + 1,
-        };
+        return Some(w.fielded(trigger_end(image, p)?));
     }
-    let e = measure_of(image, p);
-    if e.end == 0 {
-        return Tally::doubt();
+    let (end, size) = measure_of(image, p)?;
+    if !claim(marks, extent, word_in(image, p + 4), size) {
+        return None;
     }
-    let sure = claim(&mut *marks, extent, word_in(image, p + 4), e.size);
-    Tally {
-        sure,
-        at: e.end,
-        lines: w.lines,
-        fields: w.fields + 1,
-    }
+    Some(w.fielded(end))
 }

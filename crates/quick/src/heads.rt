@@ -1,5 +1,5 @@
 // The heads of lines in the quick walk, by their tags.
-ghost use Rattle.std.specs.Prelude.{◌≡◌, true, ℕ, ◌+◌, ◌%◌, ◌<◌, ◌≤◌, length};
+ghost use Rattle.std.specs.Prelude.{◌≡◌, true, ℕ, ◌+◌, ◌%◌, ◌<◌, ◌≤◌, length, IfSome};
 ghost use Rattle.laws.specs.Bytes.{word_at};
 ghost use Rattle.cmf.specs.Layouts.{Aligned, Text};
 ghost use Rattle.cmf.specs.Grammar.{Digits, Head, is_last, password_at, has_submenu, next_line};
@@ -27,40 +27,28 @@ fn is_padded_to_odd(image: &[u8], at: usize, place: usize) -> bool
     if at % 2 == 1 {
         return place == at;
     }
-    if at < place {
-        if place - at == 1 {
-            return image[at] == 0;
-        }
-    }
-    false
+    at < place && place - at == 1 && image[at] == 0
 }
 
-// Where the head of a later line at p ends, if it is after `at` and has no mark but that of the last; 0 in
-// doubt. It has five bytes, and two less with that mark, whose weight is 2: there is no pointer on.
-pub(crate) fn plain_end(image: &[u8], before: usize, p: usize, at: usize) -> usize
+// Where the head of a later line at p ends, if it is after `at` and has no mark but that of the last. It has
+// five bytes, and two less with that mark, whose weight is 2: there is no pointer on.
+pub(crate) fn plain_end(image: &[u8], before: usize, p: usize, at: usize) -> Option<usize>
     requires { (before < length image.now) × (before ≤ p) × (p < before + 65536) }
-    ensures { 0 < result → (p < length image.now)
-        × (Aligned image.now 1 at p × ((n : ℕ) → 0 < n → Head image.now n before p result)) }
+    ensures { IfSome result (λ end. (p < length image.now)
+        × (Aligned image.now 1 at p × ((n : ℕ) → 0 < n → Head image.now n before p end))) }
 {
-    if image.len() < p + 5 {
-        return 0;
-    }
-    let placed = is_padded_to_odd(image, at, p);
-    if !placed {
-        return 0;
+    if image.len() < p + 5 || !is_padded_to_odd(image, at, p) {
+        return None;
     }
     let tag = image[p];
-    if tag / 4 != 0 {
-        return 0;
-    }
-    if tag % 2 != 0 {
-        return 0;
+    if tag != 0 && tag != 2 {
+        return None;
     }
     let end = p + 5 - tag as usize;
-    if word_in(image, end - 2) == p - before {
-        return end;
+    if word_in(image, end - 2) != p - before {
+        return None;
     }
-    0
+    Some(end)
 }
 
 // Whether the mark of the first and the pointer back of the line at p agree with its place; n lines of its
@@ -73,28 +61,21 @@ fn is_linked(image: &[u8], n: usize, before: usize, p: usize) -> bool
     if n == 0 {
         return tag % 2 == 1;
     }
-    if tag % 2 == 1 {
-        return false;
-    }
-    word_in(image, p + back_offset(tag)) == p - before
+    tag % 2 == 0 && word_in(image, p + back_offset(tag)) == p - before
 }
 
-// Where the password at a place ends; 0 in doubt.
-fn password_end(image: &[u8], at: usize) -> usize
-    ensures { 0 < result → Text image.now at result × Digits image.now at }
+// Where the password at a place ends.
+fn password_end(image: &[u8], at: usize) -> Option<usize>
+    ensures { IfSome result (λ end. Text image.now at end × Digits image.now at) }
 {
     if image.len() <= at {
-        return 0;
+        return None;
     }
     let end = at + 1 + image[at] as usize;
-    if image.len() < end {
-        return 0;
+    if image.len() < end || !password_fits(image, at) {
+        return None;
     }
-    let sure = password_fits(image, at);
-    if sure {
-        return end;
-    }
-    0
+    Some(end)
 }
 
 // Where the options of the line at p end, without its password.
@@ -105,46 +86,38 @@ fn options_end(image: &[u8], p: usize) -> usize
     p + options_length(image[p])
 }
 
-// Where the head of any line ends, with n lines of its table before it; 0 in doubt.
-fn any_end(image: &[u8], n: usize, before: usize, p: usize) -> usize
+// Where the head of any line ends, with n lines of its table before it.
+fn any_end(image: &[u8], n: usize, before: usize, p: usize) -> Option<usize>
     requires { (p < length image.now) × (before ≤ p) }
-    ensures { 0 < result → Head image.now n before p result }
+    ensures { IfSome result (λ end. Head image.now n before p end) }
 {
     let tag = image[p];
     let end = options_end(image, p);
-    if image.len() < end {
-        return 0;
-    }
-    let linked = is_linked(image, n, before, p);
-    if !linked {
-        return 0;
+    if image.len() < end || !is_linked(image, n, before, p) {
+        return None;
     }
     if tag < 16 {
-        return end;
+        return Some(end);
     }
-    if 32 <= tag {
-        return 0;
-    }
-    if tag / 8 % 2 == 1 {
+    if tag < 32 && tag / 8 % 2 == 1 {
         return password_end(image, end);
     }
-    0
+    None
 }
 
-// Where the head of a line at p ends, if the line follows where the walk is and may be counted; 0 in doubt.
-pub(crate) fn accept_head(image: &[u8], n: usize, before: usize, p: usize, w: Tally) -> usize
+// Where the head of a line at p ends, if the line follows where the walk is and may be counted.
+pub(crate) fn accept_head(
+    image: &[u8],
+    n: usize,
+    before: usize,
+    p: usize,
+    w: Tally,
+) -> Option<usize>
     requires { before ≤ p }
-    ensures { 0 < result → Placed image.now n before p w result }
+    ensures { IfSome result (λ end. Placed image.now n before p w end) }
 {
-    if image.len() <= p {
-        return 0;
-    }
-    if Image::MAX_LINES <= w.lines {
-        return 0;
-    }
-    let placed = is_padded_to_odd(image, w.at, p);
-    if !placed {
-        return 0;
+    if image.len() <= p || Image::MAX_LINES <= w.lines || !is_padded_to_odd(image, w.at, p) {
+        return None;
     }
     any_end(image, n, before, p)
 }

@@ -23,12 +23,7 @@ impl Position {
             ≡ record { tally = headed w end; n = n; line = record { 0 = line }; done = false } }
     {
         Position {
-            tally: Tally {
-                sure: true,
-                at: end,
-                lines: w.lines + 1,
-                fields: w.fields,
-            },
+            tally: w.headed(end),
             n,
             line: ImagePlace(line),
             done: false,

@@ -14,4 +14,4 @@ returns-then-more-word c = (λ e. absurd (false≢true e), λ _. refl)
 
 pub returns : goal.returns
 unfolding mark_at
-returns c = (λ _. claimed_one _ _ _ _ (omega (arith, c.requires)) (one_bit _ (omega arith)) (omega arith) (λ m. c.if-more-word.false (has_mark _ _ (omega arith) m)), λ e. absurd (false≢true (sym e)))
+returns c = (λ _. claimed_one _ _ _ _ (omega (arith, c.requires)) (one_bit _ (omega arith)) (omega arith) (λ m. let q = has_mark _ _ (omega arith) m in omega arith), λ e. absurd (false≢true (sym e)))

@@ -5,17 +5,11 @@ use Rattle.quick.proofs.Pieces.{string_is}
 use native.Mathlib.Omega.{arith}
 use Rattle.quick.proofs.components.string_end.Goals as goal
 
-pub returns-then-image-at : goal.returns-then-image-at
-returns-then-image-at c = λ e. absurd (omega arith)
-
 pub overflow_cast-end : goal.overflow_cast-end
 overflow_cast-end c = omega (arith, c.type_inv.image (c.args.at + 1))
 
 pub overflow_add-end-3 : goal.overflow_add-end-3
 overflow_add-end-3 c = omega (arith, c.type_inv.image (c.args.at + 1))
 
-pub returns-then-image-end : goal.returns-then-image-end
-returns-then-image-end c = λ e. absurd (omega arith)
-
 pub returns : goal.returns
-returns c = λ _. string_is _ _ _ c.requires.1 refl (omega arith)
+returns c = string_is _ _ _ c.requires.1 refl (omega arith)

@@ -1,15 +1,8 @@
 -- A head of the grammar where the walk is.
 use native.Mathlib.Omega.{arith}
+use Rattle.std.proofs.lemmas.Option.{IfSome_then}
+use Rattle.quick.specs.Accept.{Placed}
 use Rattle.quick.proofs.heads.accept_head.Goals as goal
 
-pub returns-then-image-p : goal.returns-then-image-p
-returns-then-image-p c = λ e. absurd (omega arith)
-
-pub returns-then-w-ge-MAX_LINES : goal.returns-then-w-ge-MAX_LINES
-returns-then-w-ge-MAX_LINES c = λ e. absurd (omega arith)
-
-pub returns-then-not-placed : goal.returns-then-not-placed
-returns-then-not-placed c = λ e. absurd (omega arith)
-
 pub returns : goal.returns
-returns c = λ e. record { room = omega arith; inside = omega arith; aligned = c.is_padded_to_odd-placed.ensures c.if-not-placed.false; head = c.any_end.ensures e }
+returns c = IfSome_then _ {Q = Placed c.args.image.now c.args.n c.args.before c.args.p c.args.w} c.any_end.ensures (λ end h. record { room = omega arith; inside = omega arith; aligned = c.is_padded_to_odd.ensures c.if-not-is_padded_to_odd.false; head = h })

@@ -11,5 +11,5 @@ overflow_cast-end c = omega (arith, c.type_inv.image c.args.at)
 pub overflow_add-end-2 : goal.overflow_add-end-2
 overflow_add-end-2 c = omega (arith, c.type_inv.image c.args.at)
 
-pub returns-then-sure : goal.returns-then-sure
-returns-then-sure c = λ _. (record { ends = refl; inside = omega arith }, fit_digits _ _ (via c.password_fits-sure.ensures c.if-sure.true))
+pub returns : goal.returns
+returns c = (record { ends = refl; inside = omega arith }, fit_digits _ _ (via c.password_fits.ensures c.if-not-password_fits.false))

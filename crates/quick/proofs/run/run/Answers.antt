@@ -1,7 +1,6 @@
 -- Position by position; the tally goes onward.
 use mathlib.Core.Path.{refl, ◌∙◌}
 use mathlib.Core.Bool.{true}
-use borrow.Author.Tests.{not-true, not-false}
 use Rattle.acceptance.proofs.CameTo.{clash}
 use Rattle.quick.proofs.Positions.{moves_none, moves_then, part_moves, part_onward, next_moves}
 use native.Mathlib.Omega.{arith}
@@ -13,41 +12,26 @@ loop-s-init c = ((moves_none _ _ _ _ c.requires.head c.requires.inside, c.requir
 pub overflow_add-s : goal.overflow_add-s
 overflow_add-s c = omega (arith, c.loop-s.invariant.0.0.fits)
 
-pub shape_of-marks-then-not-zero : goal.shape_of-marks-then-not-zero
-shape_of-marks-then-not-zero c = c.loop-s.invariant.1
+pub returns-then-not-is_padded_to_even : goal.returns-then-not-is_padded_to_even
+returns-then-not-is_padded_to_even c = c.loop-s.invariant.0.0
 
-pub returns-then-not-zero : goal.returns-then-not-zero
-returns-then-not-zero c = c.loop-s.invariant.0.0
+pub returns-in_default : goal.returns-in_default
+returns-in_default c = rw c.in_default.ensures c.loop-s.invariant.0.0
 
-pub take_plain-w-requires : goal.take_plain-w-requires
-take_plain-w-requires c = (omega arith, refl, omega (arith, c.loop-s.invariant.1, c.requires.marked))
+pub returns-in_default-next_plain : goal.returns-in_default-next_plain
+returns-in_default-next_plain c = moves_then _ _ c.loop-s.invariant.0.0 (part_moves _ _ _ c.loop-s.invariant.0.1 c.loop-s.invariant.0.0.inside (c.is_padded_to_even.ensures c.if-not-is_padded_to_even.false) c.in-Some.ensures true (λ e. clash refl e) (λ _. c.if-tag-eq1.true))
 
-pub shape_of-marks-then-not-w : goal.shape_of-marks-then-not-w
-shape_of-marks-then-not-w c = c.take_plain-w.auto.marks ∙ c.loop-s.invariant.1
+pub loop-s-smaller-then-tag-eq1 : goal.loop-s-smaller-then-tag-eq1
+loop-s-smaller-then-tag-eq1 c = omega (arith, part_onward _ _ c.loop-s.s c.loop-s.invariant.0.1 c.loop-s.invariant.0.0.inside (c.is_padded_to_even.ensures c.if-not-is_padded_to_even.false) c.in-Some.ensures, (next_moves _ c.args.extent c.loop-s.marks c.in-Some-next_plain.ensures.0 c.in-Some-next_plain.ensures.1).onward)
 
-pub returns-then-not-w : goal.returns-then-not-w
-returns-then-not-w c = rw (c.take_plain-w.ensures.1 (not-true _ c.if-not-w.true)) c.loop-s.invariant.0.0
-
-pub next_plain-s-requires : goal.next_plain-s-requires
-next_plain-s-requires c = c.loop-s.invariant.0.0.inside
-
-pub shape_of-marks-then-s : goal.shape_of-marks-then-s
-shape_of-marks-then-s c = c.take_plain-w.auto.marks ∙ c.loop-s.invariant.1
-
-pub returns-then-s : goal.returns-then-s
-returns-then-s c = rw (c.next_plain-s.ensures.1 c.if-s.true) (moves_then _ _ c.loop-s.invariant.0.0 (part_moves _ _ _ c.loop-s.invariant.0.1 c.loop-s.invariant.0.0.inside (c.is_padded_to_even-zero.ensures c.if-not-zero.false) (c.take_plain-w.ensures.0 (not-false _ c.if-not-w.false)) true (λ e. clash refl e) (λ _. c.if-tag-eq1.true)))
-
-pub loop-s-smaller-else-s : goal.loop-s-smaller-else-s
-loop-s-smaller-else-s c = omega (arith, part_onward _ _ c.loop-s.s c.loop-s.invariant.0.1 c.loop-s.invariant.0.0.inside (c.is_padded_to_even-zero.ensures c.if-not-zero.false) (c.take_plain-w.ensures.0 (not-false _ c.if-not-w.false)), (next_moves _ c.args.extent c.loop-s.marks c.if-s.false (c.next_plain-s.ensures.0 c.if-s.false)).onward)
-
-pub loop-s-preserved-else-s : goal.loop-s-preserved-else-s
-loop-s-preserved-else-s c = ((moves_then _ _ (moves_then _ _ c.loop-s.invariant.0.0 (part_moves _ _ _ c.loop-s.invariant.0.1 c.loop-s.invariant.0.0.inside (c.is_padded_to_even-zero.ensures c.if-not-zero.false) (c.take_plain-w.ensures.0 (not-false _ c.if-not-w.false)) true (λ e. clash refl e) (λ _. c.if-tag-eq1.true))) (next_moves _ _ _ c.if-s.false (c.next_plain-s.ensures.0 c.if-s.false)), c.if-s.false), c.take_plain-w.auto.marks ∙ c.loop-s.invariant.1)
+pub loop-s-preserved-then-tag-eq1 : goal.loop-s-preserved-then-tag-eq1
+loop-s-preserved-then-tag-eq1 c = ((moves_then _ _ (moves_then _ _ c.loop-s.invariant.0.0 (part_moves _ _ _ c.loop-s.invariant.0.1 c.loop-s.invariant.0.0.inside (c.is_padded_to_even.ensures c.if-not-is_padded_to_even.false) c.in-Some.ensures true (λ e. clash refl e) (λ _. c.if-tag-eq1.true))) (next_moves _ _ _ c.in-Some-next_plain.ensures.0 c.in-Some-next_plain.ensures.1), c.in-Some-next_plain.ensures.0), c.take_plain.auto.marks ∙ c.loop-s.invariant.1)
 
 pub loop-s-smaller : goal.loop-s-smaller
-loop-s-smaller c = omega (arith, part_onward _ _ c.loop-s.s c.loop-s.invariant.0.1 c.loop-s.invariant.0.0.inside (c.is_padded_to_even-zero.ensures c.if-not-zero.false) (c.take_plain-w.ensures.0 (not-false _ c.if-not-w.false)))
+loop-s-smaller c = omega (arith, part_onward _ _ c.loop-s.s c.loop-s.invariant.0.1 c.loop-s.invariant.0.0.inside (c.is_padded_to_even.ensures c.if-not-is_padded_to_even.false) c.in-Some.ensures)
 
 pub loop-s-preserved : goal.loop-s-preserved
-loop-s-preserved c = ((moves_then _ _ c.loop-s.invariant.0.0 (part_moves _ _ _ c.loop-s.invariant.0.1 c.loop-s.invariant.0.0.inside (c.is_padded_to_even-zero.ensures c.if-not-zero.false) (c.take_plain-w.ensures.0 (not-false _ c.if-not-w.false)) _ (λ _. omega (arith, c.if-tag-eq1.false)) (λ e. clash e c.loop-s.invariant.0.1)), c.loop-s.invariant.0.1), c.take_plain-w.auto.marks ∙ c.loop-s.invariant.1)
+loop-s-preserved c = ((moves_then _ _ c.loop-s.invariant.0.0 (part_moves _ _ _ c.loop-s.invariant.0.1 c.loop-s.invariant.0.0.inside (c.is_padded_to_even.ensures c.if-not-is_padded_to_even.false) c.in-Some.ensures _ (λ _. omega (arith, c.if-tag-eq1.false)) (λ e. clash e c.loop-s.invariant.0.1)), c.loop-s.invariant.0.1), c.take_plain.auto.marks ∙ c.loop-s.invariant.1)
 
 pub shape_of-marks : goal.shape_of-marks
 shape_of-marks c = c.loop-s.invariant.1

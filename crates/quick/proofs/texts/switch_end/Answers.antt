@@ -1,12 +1,11 @@
 -- The tests are those of the grammar.
 use Prim.Native.Nat.{◌+◌}
 use mathlib.Core.Path.{refl}
+use Rattle.field.specs.Profiles.{profile_of}
 use Rattle.quick.proofs.Pieces.{switch_is}
+use Rattle.quick.proofs.FixedFields.{held}
 use native.Mathlib.Omega.{arith}
 use Rattle.quick.proofs.texts.switch_end.Goals as goal
-
-pub returns-then-image-at : goal.returns-then-image-at
-returns-then-image-at c = λ e. absurd (omega arith)
 
 pub overflow_cast-end : goal.overflow_cast-end
 overflow_cast-end c = omega (arith, c.type_inv.image (c.args.at + 6))
@@ -14,14 +13,9 @@ overflow_cast-end c = omega (arith, c.type_inv.image (c.args.at + 6))
 pub overflow_add-end-2 : goal.overflow_add-end-2
 overflow_add-end-2 c = omega (arith, c.type_inv.image (c.args.at + 6))
 
-pub returns-then-image-end : goal.returns-then-image-end
-returns-then-image-end c = λ e. absurd (omega arith)
-
-pub returns-then-not-fits : goal.returns-then-not-fits
-returns-then-not-fits c = λ e. absurd (omega arith)
-
-pub returns-then-longest-eq0 : goal.returns-then-longest-eq0
-returns-then-longest-eq0 c = λ e. absurd (omega arith)
+pub longest_of-requires : goal.longest_of-requires
+longest_of-requires c = (omega arith, omega arith, (c.switch_fits.ensures c.if-not-switch_fits.false).0)
 
 pub returns : goal.returns
-returns c = λ _. (omega arith, switch_is _ _ _ _ c.requires.1 (omega arith) (c.switch_fits-fits.ensures c.if-not-fits.false) refl (c.longest_of-longest.ensures (omega arith)))
+unfolding profile_of
+returns c = held _ (omega arith) (switch_is _ _ _ _ c.requires.1 (omega arith) (c.switch_fits.ensures c.if-not-switch_fits.false).1 refl c.in_ok-longest_of.ensures) refl refl
