@@ -1,23 +1,27 @@
 -- A place is found in an index at the first entry that has it, and not where no entry has it.
 use Prim.Native.Nat.{ℕ, zero, suc, ◌+◌, ◌<◌}
-use mathlib.Core.Path.{◌≡◌, refl, sym}
+use mathlib.Core.Path.{◌≡◌, refl, sym, ap}
 use mathlib.Core.Bool.{Bool, true, false, true≢false}
-use mathlib.Core.List.{List, [], ◌∷◌, ◌++◌, map, map-append}
+use mathlib.Core.List.{List, [], ◌∷◌, ◌++◌, map-append}
 use native.Mathlib.Omega.{arith}
 use native.Mathlib.Decide.{ℕ_discrete}
+use lib.ListN.{length, get_or}
+use Rattle.std.proofs.Common.{◌≢◌, ◌∙◌, MatchBool, HoldsAt}
+use Rattle.std.specs.List.{AllWithin, range_with_len}
+use Rattle.std.proofs.lemmas.List.FromFn.{length-range_with_len, get_or-range_with_len}
 use borrow.Author.Tests.{eqb-true}
 use Rattle.laws.specs.Bytes.{byte_at}
 use Rattle.laws.specs.Choice.{when◌then◌else◌, ◌and◌, ◌=?◌, ◌<?◌}
 use Rattle.laws.proofs.Cases.{if_ind, if_eq, if_ne}
 use Rattle.cmf.specs.Readers.{item_place, component_at}
 use Rattle.cmf.specs.Places.{is_in}
-use Rattle.acceptance.specs.Check.{State, checked, refusal_of}
-use Rattle.acceptance.specs.Index.{entry_at, listed, places_in}
+use Rattle.acceptance.specs.Check.{checked, refusal_of}
+use Rattle.acceptance.specs.Index.{entry_at, listed, places_in, index_of}
 use Rattle.acceptance.specs.declared.index.Entry.{Entry}
 use Rattle.acceptance.specs.declared.progress.Progress.{Progress}
-use Rattle.acceptance.proofs.Acceptance.{checked_places}
-use Rattle.handset.proofs.Ordering.{first_given}
-use Rattle.handset.specs.Refusals.{◌before◌, ◌unless◌}
+use Rattle.acceptance.proofs.Acceptance.{checked_places, index_read}
+use Rattle.handset.proofs.Ordering.{first_given, next_given}
+use Rattle.handset.specs.Refusals.{◌unless◌}
 use Rattle.handset.specs.OptionText.{items_in, text_refusal, text_span, text_place, option_text}
 use Rattle.handset.specs.declared.option.TextPlace.{TextPlace}
 
@@ -59,16 +63,32 @@ found p xs i (suc k) h e = rw (places_more xs k) (go (ℕ_discrete i k) (λ l. f
     go (yes q) below = found_last p (places_in xs k) (entry_at xs k).place.0 (rw q at e)
     go (no q) below = found_left p (places_in xs k) ((entry_at xs k).place.0 ∷ []) (below (omega arith))
 
--- one entry more that does not
-pub still_none : (p : ℕ) (xs : List ℕ) (i : ℕ) → is_in p (places_in xs i) ≡ false → ((entry_at xs i).place.0 ≡ p → ⊥) → is_in p (places_in xs (i + 1)) ≡ false
-still_none p xs i h n = let z : i + 1 ≡ suc i = omega arith in rw (z, places_more xs i) (not_yet p (places_in xs i) (entry_at xs i).place.0 h n)
+-- none of the first k is at a place
+none_found : (p : ℕ) (xs : List ℕ) (k : ℕ) → ((i : ℕ) → i < k → (entry_at xs i).place.0 ≢ p) → is_in p (places_in xs k) ≡ false
+unfolding is_in listed
+none_found p xs zero h = refl
+none_found p xs (suc k) h = rw (places_more xs k) (not_yet p (places_in xs k) (entry_at xs k).place.0 (none_found p xs k (λ i l. h i (omega arith))) (h k (omega arith)))
 
--- the refusal by the state that the check came to, where it refuses nothing
-pub refusal_is : (im : List ℕ) (extent place item : ℕ) (s : State) → s ≡ checked im extent → s.progress.refusal ≡ 0
-    → text_refusal im extent place item
-    ≡ s.progress.refusal before (14 unless (is_in place (map (λ (e : Entry). e.place.0) s.fields) and (item <? items_in (component_at im place).field.kind)))
+-- what a search of the first k answers
+pub searched : (p : ℕ) (xs : List ℕ) (k : ℕ) (r : Bool) → let ks = range_with_len 0 k in
+    MatchBool r ((j : ℕ) × (j < length ks) × HoldsAt (λ i. (entry_at xs i).place.0 ≡ p) ks j) (AllWithin (λ i. (entry_at xs i).place.0 ≢ p) ks 0 (length ks))
+    → r ≡ is_in p (places_in xs k)
+searched p xs k true h =
+    let l : h.0 < k = omega (arith, h.1, length-range_with_len 0 k) in
+    let e : get_or (range_with_len 0 k) h.0 0 ≡ h.0 = get_or-range_with_len 0 k h.0 0 l ∙ omega arith in
+    sym (found p xs h.0 k l (rw e at (h.2 0)))
+searched p xs k false h = sym (none_found p xs k (λ i l.
+    let e : get_or (range_with_len 0 k) i 0 ≡ i = get_or-range_with_len 0 k i 0 l ∙ omega arith in
+    rw e at (h i 0 (omega arith) (omega (arith, length-range_with_len 0 k)))))
+
+-- the refusal by what the check came to, where it refuses nothing
+pub refusal_good : (im : List ℕ) (extent place item : ℕ) (w : Progress) (xs : List ℕ) → w ≡ (checked im extent).progress → xs ≡ index_of (checked im extent).fields → w.refusal ≡ 0
+    → text_refusal im extent place item ≡ 14 unless (is_in place (places_in xs w.fields) and (item <? items_in (component_at im place).field.kind))
 unfolding text_refusal refusal_of
-refusal_is im extent place item s e z = let p = checked_places im extent (rw e at z) in rw (e, p)
+refusal_good im extent place item w xs e f z =
+    let q = index_read im extent w xs e f z in
+    let p = checked_places im extent (ap (λ (u : Progress). u.refusal) (sym e) ∙ z) in
+    next_given _ _ (ap (λ (u : Progress). u.refusal) (sym e) ∙ z) ∙ rw (sym p, ← q)
 
 -- a bad image
 pub refusal_bad : (im : List ℕ) (extent place item : ℕ) (w : Progress) → w ≡ (checked im extent).progress → (w.refusal ≡ 0 → ⊥) → w.refusal ≡ text_refusal im extent place item

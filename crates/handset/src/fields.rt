@@ -31,10 +31,9 @@ fn take_field(f: Field, sheet: &mut [u8], k: usize, places: &mut [usize]) -> usi
     ensures { gathered sheet.new result places.new
         ≡ take_one f (gathered sheet.old k places.old) }
 {
-    f.write_default(&mut *sheet);
+    f.write_default(sheet);
     if k < places.len() {
-        let place = f.image;
-        places[k] = place.0;
+        places[k] = f.image.0;
         return k + 1;
     }
     k
@@ -46,8 +45,7 @@ fn take_component(c: Component, sheet: &mut [u8], k: usize, places: &mut [usize]
         ≡ take_all (held_by c) (gathered sheet.old k places.old) }
 {
     if c.fielded {
-        let field = c.field;
-        return take_field(field, &mut *sheet, k, &mut *places);
+        return take_field(c.field, sheet, k, places);
     }
     k
 }
@@ -65,16 +63,14 @@ fn take_components(
         (gathered sheet.old k places.old) }
 {
     let mut count = k;
-    let mut c = p;
-    let mut left = image.len() + 1;
-    while 0 < left {
-        let component = read_component(image, c);
-        count = take_component(component, &mut *sheet, count, &mut *places);
+    let mut at = p;
+    'components: for _ in 0..=image.len() {
+        let component = read_component(image, at);
+        count = take_component(component, sheet, count, places);
         if component.last {
             return count;
         }
-        c = component.next.0;
-        left = left - 1;
+        at = component.next.0;
     }
     count
 }
@@ -96,21 +92,18 @@ fn take_table(
         return k;
     }
     let below = left - 1;
-    let title = read_title(image, at);
     let mut count = k;
-    let mut p = title.line.0;
-    let mut n = 0;
-    while n < Image::MAX_TABLE_LINES + 1 {
+    let mut p = read_title(image, at).line.0;
+    'lines: for _ in 0..=Image::MAX_TABLE_LINES {
         let h = read_head(image, p);
-        count = take_components(image, h.component.0, &mut *sheet, count, &mut *places);
+        count = take_components(image, h.component.0, sheet, count, places);
         if h.submenu {
-            count = take_table(image, below, h.table.0, &mut *sheet, count, &mut *places);
+            count = take_table(image, below, h.table.0, sheet, count, places);
         }
         if h.last {
             return count;
         }
         p = h.next.0;
-        n = n + 1;
     }
     count
 }
@@ -121,14 +114,7 @@ pub(crate) fn write_defaults(image: &[u8], sheet: &mut [u8])
         sheet.old }
 {
     let mut none = [0usize; 0];
-    take_table(
-        image,
-        Image::MAX_DEPTH,
-        Image::PROLOG,
-        &mut *sheet,
-        0,
-        &mut none,
-    );
+    take_table(image, Image::MAX_DEPTH, Image::PROLOG, sheet, 0, &mut none);
 }
 
 // The fields of an image, for a sheet of so many bytes.

@@ -25,28 +25,15 @@ pub struct TextPlace {
 fn is_reached(index: &[usize], k: usize, place: usize) -> bool
     ensures { result ≡ is_in place (places_in index.now k) }
 {
-    let mut i = 0;
-    while i < k {
-        let e = entry_at(index, i);
-        if e.place.0 == place {
-            return true;
-        }
-        i = i + 1;
-    }
-    false
+    (0..k).any(|i| entry_at(index, i).place.0 == place)
 }
 
 fn items_in(kind: Kind) -> usize
     ensures { result ≡ items_in kind }
 {
     match kind {
-        Kind::Integer(_) => 0,
-        Kind::Counter(_) => 0,
-        Kind::Time(_) => 0,
-        Kind::Date(_) => 0,
-        Kind::Switch(_) => 0,
-        Kind::Option { items, longest: _ } => items as usize,
-        Kind::Trigger => 0,
+        Kind::Option { items, .. } => items as usize,
+        _ => 0,
     }
 }
 
@@ -55,20 +42,13 @@ fn text_refusal(image: &[u8], extent: usize, place: usize, item: usize) -> u8
     ensures { result ≡ text_refusal image.now extent place item }
 {
     let c = check(image, extent);
-    let code = c.progress.refusal;
-    let fields = c.progress.fields;
-    let index = c.index;
-    if code != 0 {
-        return code;
+    let refusal = c.progress.refusal;
+    if refusal != 0 {
+        return refusal;
     }
-    let found = is_reached(&index, fields, place);
-    if !found {
-        return NO_ITEM;
-    }
-    let component = read_component(image, place);
-    let field = component.field;
-    let kind = field.kind;
-    if item < items_in(kind) {
+    if is_reached(&c.index, c.progress.fields, place)
+        && item < items_in(read_component(image, place).field.kind)
+    {
         return 0;
     }
     NO_ITEM

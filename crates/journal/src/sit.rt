@@ -17,12 +17,8 @@ pub fn play(image: &[u8], sheet: &mut [u8], session: Session, events: &[u8]) -> 
         events.now).sheet }
 {
     let mut last = session;
-    let mut i = 0;
-    while i < events.len() {
-        let stepped = event(image, &mut *sheet, last, events[i]);
-        let next = stepped.session;
-        last = next;
-        i = i + 1;
+    for e in events {
+        last = event(image, sheet, last, *e).session;
     }
     last
 }
@@ -40,7 +36,6 @@ pub fn sit(image: &[u8], sheet: &mut [u8], columns: u8, lines: u8, events: &[u8]
         (answered_in image.now (begun_with image.now sheet.old columns lines)
         events.now)) }
 {
-    let opened = open(image, &mut *sheet, columns, lines);
-    let session = opened.session;
-    play(image, &mut *sheet, session, events)
+    let session = open(image, sheet, columns, lines).session;
+    play(image, sheet, session, events)
 }

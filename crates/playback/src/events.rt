@@ -37,14 +37,10 @@ pub(crate) fn play_events(
         events.now)) }
 {
     let mut last = session;
-    let mut i = 0;
-    while i < events.len() {
-        let stepped = last.step(image, &mut *sheet, events[i]);
-        let answer = stepped.answer;
-        let next = stepped.session;
-        note(&mut *answers, i, answer.number());
-        last = next;
-        i = i + 1;
+    for (i, event) in events.iter().enumerate() {
+        let stepped = last.step(image, sheet, *event);
+        note(answers, i, stepped.answer.number());
+        last = stepped.session;
     }
     last
 }

@@ -66,14 +66,12 @@ pub fn play(
     if checked.refusal != 0 {
         return refused(checked.refusal);
     }
-    let opened = open(image, &mut *sheet, columns, lines);
+    let opened = open(image, sheet, columns, lines);
     if opened.refusal != 0 {
         return refused(opened.refusal);
     }
-    let first = opened.session;
-    let start = checked.start;
-    let events = &recorded[start..];
-    let last = play_events(image, &mut *sheet, first, events, &mut *answers);
+    let events = &recorded[checked.start..];
+    let last = play_events(image, sheet, opened.session, events, answers);
     Replayed {
         refusal: 0,
         events: checked.events,

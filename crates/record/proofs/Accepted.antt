@@ -5,11 +5,11 @@ use mathlib.Core.Bool.{true, false}
 use mathlib.Core.List.{List, ◌++◌}
 use native.Mathlib.Omega.{arith}
 use lib.ListN.{length, drop, length-append}
+use Rattle.std.proofs.Common.{Some, None}
 use Rattle.laws.proofs.Cases.{by_test}
 use Rattle.record.specs.Numbers.{encoded, sequence_of, number_at, numbers_at}
 use Rattle.record.specs.Forms.{are_events, record_of, is_sequence, events_refusal, record_refusal, events_of}
 use Rattle.record.specs.Promises.{Bytes, Begins, Holds, Judged}
-use Rattle.record.specs.declared.number.Read.TheVariants.{Broken, Number}
 use Rattle.record.proofs.Readings.{only_written, read_written}
 use Rattle.record.proofs.Writings.{read_in, in_read}
 use Rattle.record.proofs.Sequences.{rest_of, row_whole, row_written}
@@ -19,11 +19,11 @@ use Rattle.record.proofs.Steps.{by_read, by_head, head_missing, head_other, head
 
 module _ (s : List ℕ) where
   -- a form number that is missing or broken
-  missing : number_at s 0 ≡ Broken → record_refusal s ≡ 16
+  missing : number_at s 0 ≡ None → record_refusal s ≡ 16
   unfolding record_refusal
   missing e = head_missing _ _ _ s e
 
-  module _ (form at : ℕ) (e : number_at s 0 ≡ Number form at) where
+  module _ (form at : ℕ) (e : number_at s 0 ≡ Some (form, at)) where
     -- another form
     other : (form ≡ 1 → ⊥) → record_refusal s ≡ 17
     unfolding record_refusal
@@ -31,12 +31,12 @@ module _ (s : List ℕ) where
 
     module _ (one : form ≡ 1) where
       -- a number of events that is missing or broken
-      cut : number_at s at ≡ Broken → record_refusal s ≡ 16
+      cut : number_at s at ≡ None → record_refusal s ≡ 16
       unfolding record_refusal
       cut k = head_cut _ _ _ s form at e one k
 
       -- a whole head, which leaves it to the row
-      on_row : (n start : ℕ) → number_at s at ≡ Number n start → record_refusal s ≡ events_refusal n s start
+      on_row : (n start : ℕ) → number_at s at ≡ Some (n, start) → record_refusal s ≡ events_refusal n s start
       unfolding record_refusal
       on_row n start k = head_whole _ _ _ s form at e one n start k
 
@@ -46,8 +46,8 @@ module _ (s : List ℕ) where
 record Reads (s es : List ℕ) : Type 0 where
   pub at : ℕ
   pub start : ℕ
-  pub form : number_at s 0 ≡ Number 1 at
-  pub count : number_at s at ≡ Number (length es) start
+  pub form : number_at s 0 ≡ Some (1, at)
+  pub count : number_at s at ≡ Some (length es, start)
   pub row : is_sequence (length es) s start ≡ true
   pub events : numbers_at (length es) s start ≡ es
 
@@ -99,10 +99,10 @@ module _ (s es : List ℕ) (h : Holds s es) where
 
 module _ (s : List ℕ) (bytes : Bytes s) where
   -- a form number that is read is there
-  begins : (n next : ℕ) → number_at s 0 ≡ Number n next → Begins s n
+  begins : (n next : ℕ) → number_at s 0 ≡ Some (n, next) → Begins s n
   begins n next e = record { next = next; here = in_read s 0 n next bytes e }
 
-  module _ (at n start : ℕ) (e : number_at s 0 ≡ Number 1 at) (k : number_at s at ≡ Number n start) where
+  module _ (at n start : ℕ) (e : number_at s 0 ≡ Some (1, at)) (k : number_at s at ≡ Some (n, start)) where
     -- a row after a head holds its numbers
     row_holds : is_sequence n s start ≡ true → Holds s (numbers_at n s start)
     unfolding record_of sequence_of
@@ -126,7 +126,7 @@ module _ (s : List ℕ) (bytes : Bytes s) where
         (λ h. let z = not_row h in rw z (Judged.broken (begins 1 at e) (λ es w. not_broken s es w z)))
 
   -- where no form number is read there is none
-  no_number : number_at s 0 ≡ Broken → (n : ℕ) → Begins s n → ⊥
+  no_number : number_at s 0 ≡ None → (n : ℕ) → Begins s n → ⊥
   no_number e n b =
       let r = read_in s 0 n b.next b.here in
       let z : ◌≡◌ {A = ℕ} 0 1 = cc in

@@ -8,6 +8,7 @@ use native.Mathlib.Numerals.{add-one}
 use lib.ListN.{length, drop}
 use lib.Seq.{drop-cons, drop-length}
 use borrow.Author.Tests.{eqb-true, eqb-false, leb-true, leb-false, ltb-false}
+use Rattle.std.proofs.Common.{Option, Some, None}
 use Rattle.laws.specs.Choice.{◌and◌, ◌=?◌, ◌<?◌, ◌≤?◌}
 use Rattle.laws.specs.Bytes.{byte_at}
 use Rattle.laws.proofs.Cases.{if_ind, and_l, and_r}
@@ -15,14 +16,12 @@ use Rattle.session.specs.Events.{second}
 use Rattle.handset.proofs.Ordering.{none_before, none_unless}
 use Rattle.record.specs.Numbers.{number_at, numbers_at, end_after}
 use Rattle.record.specs.Forms.{are_events, is_sequence, events_refusal, record_refusal, events_of, start_of}
-use Rattle.record.specs.declared.number.Read.{Read}
-use Rattle.record.specs.declared.number.Read.TheVariants.{Broken, Number}
 use Rattle.record.proofs.Steps.{by_read, by_head, head_missing, head_other, head_cut, head_whole, numbers_next, row_next, row_broken, events_next}
 
 -- a number below 128 is its own byte
-abbrev OwnByte : List ℕ → ℕ → Read → Type 0
-OwnByte s at Broken = Unit {0}
-OwnByte s at (Number x next) = x < 128 → (at < length s) × ((byte_at s at ≡ x) × (next ≡ at + 1))
+abbrev OwnByte : List ℕ → ℕ → Option (ℕ × ℕ) → Type 0
+OwnByte s at None = Unit {0}
+OwnByte s at (Some (x, next)) = x < 128 → (at < length s) × ((byte_at s at ≡ x) × (next ≡ at + 1))
 
 module _ (s : List ℕ) (at : ℕ) where
   own_byte : OwnByte s at (number_at s at)
@@ -43,14 +42,14 @@ module _ (s : List ℕ) (at : ℕ) where
       three : (byte_at s at - 128) * 16384 + (byte_at s (at + 1) - 128) * 128 + byte_at s (at + 2) < 128 → byte_at s at =? 128 ≡ false → byte_at s at <? 128 ≡ false → ⊥
       three h b a = omega (arith, eqb-false (byte_at s at) 128 b, ltb-false (byte_at s at) 128 a)
 
-  one_byte : (x next : ℕ) → number_at s at ≡ Number x next → x < 128 → (at < length s) × ((byte_at s at ≡ x) × (next ≡ at + 1))
+  one_byte : (x next : ℕ) → number_at s at ≡ Some (x, next) → x < 128 → (at < length s) × ((byte_at s at ≡ x) × (next ≡ at + 1))
   one_byte x next e = rw e at own_byte
 
 -- what the bytes from a place on are, if a row of n events begins there
 abbrev RowBytes : List ℕ → ℕ → ℕ → Type 0
 RowBytes s n at = is_sequence n s at ≡ true → are_events (numbers_at n s at) ≡ true → (at ≤ length s) × (drop at s ≡ numbers_at n s at)
 
-next_byte : (s : List ℕ) (n at x next : ℕ) → number_at s at ≡ Number x next → RowBytes s n next → RowBytes s (suc n) at
+next_byte : (s : List ℕ) (n at x next : ℕ) → number_at s at ≡ Some (x, next) → RowBytes s n next → RowBytes s (suc n) at
 next_byte s n at x next e later r g =
     let z : suc n - 1 ≡ n = omega arith in
     let g' : (x ≤? second) and are_events (numbers_at n s next) ≡ true = rw z at (events_next s x next (suc n) at (omega arith) e ∙ g) in
@@ -82,7 +81,7 @@ pub record Parts (s : List ℕ) : Type 0 where
   pub count : ℕ
   pub start : ℕ
   pub place : ℕ
-  pub counted : number_at s place ≡ Number count start
+  pub counted : number_at s place ≡ Some (count, start)
   pub row : is_sequence count s start ≡ true
   pub known : are_events (numbers_at count s start) ≡ true
   pub starts : start_of s ≡ start

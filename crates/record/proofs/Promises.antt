@@ -7,6 +7,7 @@ use native.Mathlib.Omega.{arith}
 use lib.ListN.{length, take, drop}
 use lib.Seq.{take_at}
 use borrow.Author.Tests.{leb-true}
+use Rattle.std.proofs.Common.{Some}
 use Rattle.laws.specs.Choice.{when◌then◌else◌, ◌≤?◌}
 use Rattle.laws.proofs.Cases.{if_eq, if_ne, and_l, and_r}
 use Rattle.laws.proofs.Frame.{put_fits}
@@ -14,7 +15,6 @@ use Rattle.session.specs.Events.{second}
 use Rattle.handset.specs.Refusals.{◌unless◌}
 use Rattle.handset.proofs.Ordering.{tested_before, none_before, none_unless}
 use Rattle.record.specs.Numbers.{most_number, encoded}
-use Rattle.record.specs.declared.number.Read.TheVariants.{Number}
 use Rattle.record.specs.Forms.{are_events, record_of, recording_refusal, recorded, recorded_in, record_refusal, events_of}
 use Rattle.record.specs.Promises.{Numbers, Holds, Judged, Recordable, NumberPromises, RecordPromises}
 use Rattle.record.proofs.Stores.{behind_fits}
@@ -112,7 +112,7 @@ numbers =
     record {
       written = is_written;
       reads = λ s bytes at n next. (in_read s at n next bytes, read_in s at n next);
-      back = λ s at n small fits. read_back at n s small fits ∙ ap (λ (k : ℕ). Number n k) (sym (behind_fits at (encoded n) s fits));
+      back = λ s at n small fits. read_back at n s small fits ∙ ap (λ (k : ℕ). Some (n, k)) (sym (behind_fits at (encoded n) s fits));
     }
 
 pub promises : RecordPromises

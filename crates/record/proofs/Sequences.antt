@@ -7,11 +7,11 @@ use native.Mathlib.Omega.{arith}
 use lib.ListN.{length, drop, length-append, length-drop}
 use lib.Seq.{drop-drop, drop_at, drop-length}
 use borrow.Author.Tests.{eq-eqb, eqb-true}
+use Rattle.std.proofs.Common.{Some}
 use Rattle.laws.proofs.Cases.{and_i, and_r}
 use Rattle.record.specs.Numbers.{encoded, sequence_of, number_at, numbers_at, end_after}
 use Rattle.record.specs.Forms.{is_sequence}
 use Rattle.record.specs.Promises.{Bytes, Numbers}
-use Rattle.record.specs.declared.number.Read.TheVariants.{Number}
 use Rattle.record.proofs.Readings.{only_written, read_written}
 use Rattle.record.proofs.Steps.{by_read, numbers_next, end_next, row_next, row_broken}
 
@@ -50,7 +50,7 @@ pub record Row (s : List ℕ) (n at : ℕ) : Type 0 where
 
 module _ (s : List ℕ) (bytes : Bytes s) where
   -- one number more
-  row_more : (x next n at : ℕ) → number_at s at ≡ Number x next → Row s n next → Row s (suc n) at
+  row_more : (x next n at : ℕ) → number_at s at ≡ Some (x, next) → Row s n next → Row s (suc n) at
   unfolding sequence_of
   row_more x next n at e r =
       let k = only_written s at x next bytes e in

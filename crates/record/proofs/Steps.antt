@@ -4,64 +4,61 @@ use mathlib.Core.Path.{◌≡◌, refl, sym, ap, ◌∙◌}
 use mathlib.Core.Bool.{Bool, true, false}
 use mathlib.Core.List.{List, [], ◌∷◌}
 use native.Mathlib.Omega.{arith}
-use lib.ListN.{length, drop, get_or}
-use lib.Seq.{drop-cons, drop-length}
+use lib.ListN.{length, get_or}
 use borrow.Author.Tests.{eq-eqb, ne_eqb, eqb-true, eqb-false, le-leb, lt-leb}
+use Rattle.std.proofs.Common.{Option, Some, None, Result, Ok, Err, MatchBool, HoldsAt}
+use Rattle.std.specs.List.{AllWithin}
 use Rattle.laws.specs.Choice.{when◌then◌else◌, ◌and◌, ◌=?◌, ◌≤?◌}
-use Rattle.laws.proofs.Cases.{by_test, if_eq, if_ne, and_l, and_true, and_false}
+use Rattle.laws.proofs.Cases.{by_test, if_eq, if_ne, and_i, and_l, and_false}
 use Rattle.session.specs.Events.{second}
 use Rattle.handset.specs.Refusals.{◌unless◌}
 use Rattle.handset.proofs.Ordering.{first_given, next_given, holding, failing, none_before, none_unless}
 use Rattle.record.specs.Numbers.{number_at, on_read, numbers_at, end_after}
 use Rattle.record.specs.Forms.{are_events, on_head, is_sequence, events_refusal, record_refusal, events_of, start_of, checked}
 use Rattle.record.specs.Heads.{head_of, refused_record, events_checked}
-use Rattle.record.specs.declared.number.Read.{Read}
-use Rattle.record.specs.declared.number.Read.TheVariants.{Broken, Number}
 use Rattle.record.specs.declared.reading.Checked.{Checked}
-use Rattle.record.specs.declared.reading.Head.{Head}
-use Rattle.record.specs.declared.reading.Head.TheVariants.{Refused, Events}
 
 -- ---- one number
 
 module _ {A : Type 0} (b : A) (f : ℕ → ℕ → A) where
-  pub on_broken : (r : Read) → r ≡ Broken → on_read b f r ≡ b
+  pub on_broken : (r : Option (ℕ × ℕ)) → r ≡ None → on_read b f r ≡ b
   unfolding on_read
   on_broken r e = rw e
 
-  pub on_number : (r : Read) (n next : ℕ) → r ≡ Number n next → on_read b f r ≡ f n next
+  pub on_number : (r : Option (ℕ × ℕ)) (n next : ℕ) → r ≡ Some (n, next) → on_read b f r ≡ f n next
   unfolding on_read
   on_number r n next e = rw e
 
 -- a reading kept with its equation
-pub by_read : {A : Type 0} (r : Read) → (r ≡ Broken → A) → ((n next : ℕ) → r ≡ Number n next → A) → A
-by_read Broken f g = f refl
-by_read (Number n next) f g = g n next refl
+pub by_read : {A : Type 0} (r : Option (ℕ × ℕ)) → (r ≡ None → A) → ((n next : ℕ) → r ≡ Some (n, next) → A) → A
+by_read None f g = f refl
+by_read (Some (n, next)) f g = g n next refl
 
 -- ---- the head
 
 module _ {A : Type 0} (b o : A) (f : ℕ → ℕ → A) (s : List ℕ) where
-  pub head_missing : number_at s 0 ≡ Broken → on_head b o f s ≡ b
+  pub head_missing : number_at s 0 ≡ None → on_head b o f s ≡ b
   unfolding on_head
   head_missing e = on_broken _ _ _ e
 
-  module _ (form at : ℕ) (e : number_at s 0 ≡ Number form at) where
+  module _ (form at : ℕ) (e : number_at s 0 ≡ Some (form, at)) where
     pub head_other : (form ≡ 1 → ⊥) → on_head b o f s ≡ o
     unfolding on_head
     head_other h = on_number _ _ _ form at e ∙ if_ne form 1 _ _ h
 
-    pub head_cut : form ≡ 1 → number_at s at ≡ Broken → on_head b o f s ≡ b
+    pub head_cut : form ≡ 1 → number_at s at ≡ None → on_head b o f s ≡ b
     unfolding on_head
     head_cut h k = on_number _ _ _ form at e ∙ if_eq form 1 _ _ h ∙ on_broken _ _ _ k
 
-    pub head_whole : form ≡ 1 → (n next : ℕ) → number_at s at ≡ Number n next → on_head b o f s ≡ f n next
+    pub head_whole : form ≡ 1 → (n next : ℕ) → number_at s at ≡ Some (n, next) → on_head b o f s ≡ f n next
     unfolding on_head
     head_whole h n next k = on_number _ _ _ form at e ∙ if_eq form 1 _ _ h ∙ on_number _ _ _ n next k
 
 -- the four cases of a head
-pub by_head : {A : Type 0} (s : List ℕ) → (number_at s 0 ≡ Broken → A)
-    → ((form at : ℕ) → number_at s 0 ≡ Number form at → (form ≡ 1 → ⊥) → A)
-    → ((form at : ℕ) → number_at s 0 ≡ Number form at → form ≡ 1 → number_at s at ≡ Broken → A)
-    → ((form at : ℕ) → number_at s 0 ≡ Number form at → form ≡ 1 → (n next : ℕ) → number_at s at ≡ Number n next → A) → A
+pub by_head : {A : Type 0} (s : List ℕ) → (number_at s 0 ≡ None → A)
+    → ((form at : ℕ) → number_at s 0 ≡ Some (form, at) → (form ≡ 1 → ⊥) → A)
+    → ((form at : ℕ) → number_at s 0 ≡ Some (form, at) → form ≡ 1 → number_at s at ≡ None → A)
+    → ((form at : ℕ) → number_at s 0 ≡ Some (form, at) → form ≡ 1 → (n next : ℕ) → number_at s at ≡ Some (n, next) → A) → A
 by_head s missing other cut whole =
     by_read (number_at s 0) missing
     (λ form at e. by_test (form =? 1)
@@ -80,13 +77,14 @@ head_both g a o f b p h s =
     rw (head_whole a o f s form at e one n next k, head_whole b p h s form at e one n next k, head_whole (g a b) (g o p) (λ n at. g (f n at) (h n at)) s form at e one n next k))
 
 -- what goes on from a head that the code has read
-goes_on : {A : Type 0} → (ℕ → A) → (ℕ → ℕ → A) → Head → A
-goes_on r f (Refused k) = r k
-goes_on r f (Events n at) = f n at
+goes_on : {A : Type 0} → (ℕ → A) → (ℕ → ℕ → A) → Result (ℕ × ℕ) ℕ → A
+goes_on r f (Err k) = r k
+goes_on r f (Ok (n, at)) = f n at
 
 goes_on_lem : {A : Type 0} (r : ℕ → A) (f : ℕ → ℕ → A) (s : List ℕ) → goes_on r f (head_of s) ≡ on_head (r 16) (r 17) f s
 unfolding head_of goes_on
-goes_on_lem r f s = head_both (λ (x : Head) (y : Head). goes_on r f x) (Refused 16) (Refused 17) (λ n at. Events n at) (Refused 16) (Refused 17) (λ n at. Events n at) s
+goes_on_lem r f s =
+    head_both (λ (x : Result (ℕ × ℕ) ℕ) (y : ℕ). goes_on r f x) (Err 16) (Err 17) (λ n at. Ok (n, at)) 0 0 (λ n at. 0) s
 
 -- ---- the events
 
@@ -97,7 +95,7 @@ eqb_suc a b =
     (λ e. ne_eqb (suc a) (suc b) (λ z. eqb-false a b e (omega arith)) ∙ sym e)
 
 module _ (s : List ℕ) where
-  pub row_broken : (n at : ℕ) → 0 < n → number_at s at ≡ Broken → is_sequence n s at ≡ false
+  pub row_broken : (n at : ℕ) → 0 < n → number_at s at ≡ None → is_sequence n s at ≡ false
   unfolding is_sequence numbers_at
   row_broken zero at h e = absurd (omega arith)
   row_broken (suc n) at h e =
@@ -105,22 +103,22 @@ module _ (s : List ℕ) where
 
   -- one number more
   module _ (x next : ℕ) where
-    pub numbers_next : (n at : ℕ) → number_at s at ≡ Number x next → numbers_at (suc n) s at ≡ x ∷ numbers_at n s next
+    pub numbers_next : (n at : ℕ) → number_at s at ≡ Some (x, next) → numbers_at (suc n) s at ≡ x ∷ numbers_at n s next
     unfolding numbers_at
     numbers_next n at e = on_number _ _ _ x next e
 
-    pub end_next : (n at : ℕ) → number_at s at ≡ Number x next → end_after (suc n) s at ≡ end_after n s next
+    pub end_next : (n at : ℕ) → number_at s at ≡ Some (x, next) → end_after (suc n) s at ≡ end_after n s next
     unfolding end_after
     end_next n at e = on_number _ _ _ x next e
 
-    pub row_next : (n at : ℕ) → 0 < n → number_at s at ≡ Number x next → is_sequence (n - 1) s next ≡ is_sequence n s at
+    pub row_next : (n at : ℕ) → 0 < n → number_at s at ≡ Some (x, next) → is_sequence (n - 1) s next ≡ is_sequence n s at
     unfolding is_sequence
     row_next zero at h e = absurd (omega arith)
     row_next (suc n) at h e =
         let z : suc n - 1 ≡ n = omega arith in
         rw (z, numbers_next n at e, end_next n at e, eqb_suc (length (numbers_at n s next)) n)
 
-    pub events_next : (n at : ℕ) → 0 < n → number_at s at ≡ Number x next
+    pub events_next : (n at : ℕ) → 0 < n → number_at s at ≡ Some (x, next)
         → (x ≤? second) and are_events (numbers_at (n - 1) s next) ≡ are_events (numbers_at n s at)
     unfolding are_events
     events_next zero at h e = absurd (omega arith)
@@ -209,11 +207,11 @@ module _ (s : List ℕ) where
   unfolding when◌then◌else◌
   whole = checked_on ∙ sym (goes_on_lem refused_record (λ n at. events_checked n s at) s)
 
-  pub checked_refused : (k : ℕ) (c : Checked) → head_of s ≡ Refused k → c ≡ refused_record k → c ≡ checked s
+  pub checked_refused : (k : ℕ) (c : Checked) → head_of s ≡ Err k → c ≡ refused_record k → c ≡ checked s
   unfolding goes_on
   checked_refused k c e h = h ∙ sym (whole ∙ ap (goes_on refused_record (λ n at. events_checked n s at)) e)
 
-  pub checked_events : (n at : ℕ) (c : Checked) → head_of s ≡ Events n at → c ≡ events_checked n s at → c ≡ checked s
+  pub checked_events : (n at : ℕ) (c : Checked) → head_of s ≡ Ok (n, at) → c ≡ events_checked n s at → c ≡ checked s
   unfolding goes_on
   checked_events n at c e h = h ∙ sym (whole ∙ ap (goes_on refused_record (λ n at. events_checked n s at)) e)
 
@@ -228,15 +226,25 @@ module _ (s : List ℕ) where
 
 -- ---- a list of events
 
-module _ (es : List ℕ) (i : ℕ) (h : i < length es) where
-  pub event_good : get_or es i 0 ≤ second → are_events (drop (suc i) es) ≡ are_events (drop i es)
-  unfolding are_events
-  event_good g = rw (drop-cons es i 0 h) (sym (and_true _ (le-leb (get_or es i 0) second g)))
+neither : (a : Bool) → a and false ≡ false
+unfolding ◌and◌
+neither true = refl
+neither false = refl
 
-  pub event_bad : second < get_or es i 0 → are_events (drop i es) ≡ false
-  unfolding are_events
-  event_bad g = rw (drop-cons es i 0 h) (and_false _ (lt-leb (get_or es i 0) second g))
-
-pub events_end : (es : List ℕ) (i : ℕ) → i ≡ length es → are_events (drop i es) ≡ true
+-- whether all are events, by those that are not
+all_below : (es : List ℕ) → ((k d : ℕ) → k < length es → get_or es k d ≤ second) → are_events es ≡ true
 unfolding are_events
-events_end es i e = rw (e, drop-length es)
+all_below [] h = refl
+all_below (e ∷ es) h = and_i (le-leb e second (h 0 0 (omega arith))) (all_below es (λ k d l. h (suc k) d (omega arith)))
+
+one_above : (es : List ℕ) (k : ℕ) → k < length es → second < get_or es k 0 → are_events es ≡ false
+unfolding are_events
+one_above [] k l h = absurd (omega arith)
+one_above (e ∷ es) zero l h = and_false _ (lt-leb e second h)
+one_above (e ∷ es) (suc k) l h = ap (λ (b : Bool). e ≤? second and b) (one_above es k (omega arith) h) ∙ neither (e ≤? second)
+
+pub all_events : (es : List ℕ) (r : Bool)
+    → MatchBool r (AllWithin (λ e. e ≤ second) es 0 (length es)) ((k : ℕ) × (k < length es) × HoldsAt (λ e. second < e) es k)
+    → r ≡ are_events es
+all_events es true h = sym (all_below es (λ k d l. h k d (omega arith) l))
+all_events es false h = sym (one_above es h.0 h.1 (h.2 0))

@@ -5,10 +5,10 @@ use mathlib.Core.Logic.{◌↔◌}
 use mathlib.Core.List.{List, [], ◌∷◌}
 use native.Mathlib.Omega.{arith}
 use lib.ListN.{length, drop, get_or}
+use Rattle.std.proofs.Common.{Some}
 use Rattle.laws.specs.Digits.{number_from}
 use Rattle.record.specs.Numbers.{most_number, top_bit, SevenBits, topped, Written, encoded, number_at}
 use Rattle.record.specs.Promises.{Bytes, NumberIn}
-use Rattle.record.specs.declared.number.Read.TheVariants.{Number}
 use Rattle.record.proofs.Groups.{by_groups, one_group, two_groups, three_groups}
 use Rattle.record.proofs.Readings.{only_written, read_written}
 
@@ -90,13 +90,13 @@ is_written n b = (λ w. (w.small, only_groups n b w), λ h. rw h.1 (groups_writt
 
 module _ (s : List ℕ) (at n next : ℕ) where
   -- a number is read where it is written
-  pub read_in : NumberIn s at n next → number_at s at ≡ Number n next
+  pub read_in : NumberIn s at n next → number_at s at ≡ Some (n, next)
   read_in i =
       let e = only_groups n i.bytes i.written in
       rw (i.ends, e) (read_written s at n (drop next s) i.written.small (i.here ∙ rw e))
 
   -- and written where it is read
-  pub in_read : Bytes s → number_at s at ≡ Number n next → NumberIn s at n next
+  pub in_read : Bytes s → number_at s at ≡ Some (n, next) → NumberIn s at n next
   in_read bytes e =
       let k = only_written s at n next bytes e in
       record { bytes = encoded n; written = groups_written n k.small; here = k.here; ends = k.behind }

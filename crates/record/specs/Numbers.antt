@@ -2,11 +2,10 @@
 -- and how numbers are read.
 use Rattle.std.specs.Prelude.{ℕ, zero, suc, ◌+◌, ◌-◌, ◌*◌, ◌/◌, ◌%◌, ◌≤◌, ◌<◌, ◌≡◌, List, [], ◌∷◌, ◌++◌}
 use Rattle.std.specs.Prelude.{length, get_or}
+use Rattle.std.specs.Prelude.{Option, Some, None}
 use Rattle.laws.specs.Choice.{when◌then◌else◌, ◌=?◌, ◌<?◌, ◌≤?◌}
 use Rattle.laws.specs.Bytes.{byte_at}
 use Rattle.laws.specs.Digits.{number_from}
-use Rattle.record.specs.declared.number.Read.{Read}
-use Rattle.record.specs.declared.number.Read.TheVariants.{Broken, Number}
 
 -- ---- the rule
 
@@ -66,33 +65,32 @@ behind at b s = when (at + length b) ≤? length s then at + length b else at
 -- ---- reading
 
 -- the third group, where the two before it have the top bit; a first group over 3 is a number over 65,535
-abbrev pub third_at : List ℕ → ℕ → Read
+abbrev pub third_at : List ℕ → ℕ → Option (ℕ × ℕ)
 third_at s at =
-    when length s ≤? (at + 2) then Broken
-    else when 128 ≤? byte_at s (at + 2) then Broken
-    else when 131 <? byte_at s at then Broken
-    else Number ((byte_at s at - 128) * 16384 + (byte_at s (at + 1) - 128) * 128 + byte_at s (at + 2))
-    (at + 3)
+    when length s ≤? (at + 2) then None
+    else when 128 ≤? byte_at s (at + 2) then None
+    else when 131 <? byte_at s at then None
+    else Some ((byte_at s at - 128) * 16384 + (byte_at s (at + 1) - 128) * 128 + byte_at s (at + 2), at + 3)
 
 -- the second group, where the first has the top bit and is not 0
-abbrev pub second_at : List ℕ → ℕ → Read
+abbrev pub second_at : List ℕ → ℕ → Option (ℕ × ℕ)
 second_at s at =
-    when length s ≤? (at + 1) then Broken
-    else when byte_at s (at + 1) <? 128 then Number ((byte_at s at - 128) * 128 + byte_at s (at + 1)) (at + 2)
+    when length s ≤? (at + 1) then None
+    else when byte_at s (at + 1) <? 128 then Some ((byte_at s at - 128) * 128 + byte_at s (at + 1), at + 2)
     else third_at s at
 
 -- R44: the number at a place with the place after it, or that the rules are broken there
-unfoldable pub number_at : List ℕ → ℕ → Read
+unfoldable pub number_at : List ℕ → ℕ → Option (ℕ × ℕ)
 number_at s at =
-    when length s ≤? at then Broken
-    else when byte_at s at <? 128 then Number (byte_at s at) (at + 1)
-    else when byte_at s at =? 128 then Broken
+    when length s ≤? at then None
+    else when byte_at s at <? 128 then Some (byte_at s at, at + 1)
+    else when byte_at s at =? 128 then None
     else second_at s at
 
 -- what goes on from a number that was read, with the place after it
-unfoldable pub on_read : {A : Type 0} → A → (ℕ → ℕ → A) → Read → A
-on_read broken f Broken = broken
-on_read broken f (Number n next) = f n next
+unfoldable pub on_read : {A : Type 0} → A → (ℕ → ℕ → A) → Option (ℕ × ℕ) → A
+on_read broken f None = broken
+on_read broken f (Some (n, next)) = f n next
 
 -- up to n numbers from a place on, as far as they keep the rules
 unfoldable pub numbers_at : ℕ → List ℕ → ℕ → List ℕ

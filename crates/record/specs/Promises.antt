@@ -3,13 +3,13 @@
 -- `promises`: (theorem), or (by definition).
 use Rattle.std.specs.Prelude.{ℕ, ◌+◌, ◌≤◌, ◌<◌, ◌≡◌, ◌≢◌, ◌↔◌, true, false, List, [], ◌∷◌, ◌++◌, length}
 use Rattle.std.specs.Prelude.{take, drop}
+use Rattle.std.specs.Prelude.{Some}
 use Rattle.laws.specs.Choice.{when◌then◌else◌, ◌≤?◌}
 use Rattle.laws.specs.Bytes.{byte_at}
 use Rattle.laws.specs.Parts.{put_at}
 use Rattle.record.specs.Numbers.{most_number, Written, encoded, behind, number_at}
 use Rattle.record.specs.Forms.{are_events, record_of, recording_refusal, recorded, recorded_in}
 use Rattle.record.specs.Forms.{record_refusal, events_of, start_of}
-use Rattle.record.specs.declared.number.Read.TheVariants.{Number}
 
 -- bytes: each below 256
 abbrev pub Bytes : List ℕ → Type 0
@@ -29,10 +29,10 @@ pub record NumberPromises : Type 0 where
   pub written : (n : ℕ) (b : List ℕ) → Written n b ↔ ((n ≤ most_number) × (b ≡ encoded n))
   -- (theorem) a number is read with the place after it exactly where it is written
   pub reads : (s : List ℕ) → Bytes s → (at n next : ℕ)
-      → (number_at s at ≡ Number n next) ↔ NumberIn s at n next
+      → (number_at s at ≡ Some (n, next)) ↔ NumberIn s at n next
   -- (theorem) so what was written at a place is read there, with the place that the writer answered
   pub back : (s : List ℕ) (at n : ℕ) → n ≤ most_number → at + length (encoded n) ≤ length s
-      → number_at (put_at at (encoded n) s) at ≡ Number n (behind at (encoded n) s)
+      → number_at (put_at at (encoded n) s) at ≡ Some (n, behind at (encoded n) s)
 
 -- ---- records
 

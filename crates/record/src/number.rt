@@ -5,24 +5,17 @@ ghost use Rattle.std.specs.Prelude.{◌≡◌, length};
 ghost use Rattle.laws.specs.Parts.{put_at};
 ghost use Rattle.record.specs.Numbers.{encoded, behind, number_at};
 
-// What is at a place: a number and the place after it, or bytes that break the rules.
-#[derive(Clone, Copy)]
-pub enum Read {
-    Broken,
-    Number(u16, usize),
-}
-
 // How many groups a number has; 16,384 is 128 times 128.
 pub fn group_count(n: u16) -> usize
     ensures { result ≡ length (encoded n) }
 {
     if n < 128 {
-        return 1;
+        1
+    } else if n < 16384 {
+        2
+    } else {
+        3
     }
-    if n < 16384 {
-        return 2;
-    }
-    3
 }
 
 // Writes a number at a place and answers the place after it; where it does not fit nothing changes, and the
@@ -32,10 +25,7 @@ pub fn write_number(room: &mut [u8], at: usize, n: u16) -> usize
         × (room.new ≡ put_at at (encoded n) room.old) }
 {
     let count = group_count(n);
-    if room.len() < at {
-        return at;
-    }
-    if room.len() - at < count {
+    if room.len() < at || room.len() - at < count {
         return at;
     }
     if n < 128 {
@@ -53,40 +43,25 @@ pub fn write_number(room: &mut [u8], at: usize, n: u16) -> usize
     at + 3
 }
 
-// Reads the number at a place.
-pub fn read_number(bytes: &[u8], at: usize) -> Read
+// Reads the number at a place, with the place after it; bytes that break the rules are none.
+pub fn read_number(bytes: &[u8], at: usize) -> Option<(u16, usize)>
     ensures { result ≡ number_at bytes.now at }
 {
-    if bytes.len() <= at {
-        return Read::Broken;
-    }
-    let a = bytes[at];
+    let a = *bytes.get(at)? as u16;
     if a < 128 {
-        return Read::Number(a as u16, at + 1);
+        return Some((a, at + 1));
     }
     if a == 128 {
-        return Read::Broken;
+        return None;
     }
-    if bytes.len() <= at + 1 {
-        return Read::Broken;
-    }
-    let b = bytes[at + 1];
+    let b = *bytes.get(at + 1)? as u16;
     if b < 128 {
-        return Read::Number((a as u16 - 128) * 128 + b as u16, at + 2);
+        return Some(((a - 128) * 128 + b, at + 2));
     }
-    if bytes.len() <= at + 2 {
-        return Read::Broken;
-    }
-    let c = bytes[at + 2];
-    if 128 <= c {
-        return Read::Broken;
-    }
+    let c = *bytes.get(at + 2)? as u16;
     // A first group over 3 would make 65,536 or more.
-    if 131 < a {
-        return Read::Broken;
+    if c >= 128 || a > 131 {
+        return None;
     }
-    Read::Number(
-        (a as u16 - 128) * 16384 + (b as u16 - 128) * 128 + c as u16,
-        at + 3,
-    )
+    Some(((a - 128) * 16384 + (b - 128) * 128 + c, at + 3))
 }

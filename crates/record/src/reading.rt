@@ -1,11 +1,9 @@
 // Reading: a record is looked through before any of its events is played.
 ghost use Rattle.std.specs.Prelude.{◌≡◌};
-ghost use Rattle.laws.specs.Choice.{◌and◌, ◌≤?◌};
-ghost use Rattle.session.specs.Events.{second};
 ghost use Rattle.record.specs.Forms.{events_refusal, checked};
 ghost use Rattle.record.specs.Heads.{head_of, refused_record, events_checked};
 
-use crate::number::{Read, read_number};
+use crate::number::read_number;
 use crate::recording::FORM_1;
 use crate::refusal::{NO_RECORD, OTHER_FORM};
 use handset::refusal::NO_EVENT;
@@ -20,13 +18,6 @@ pub struct Checked {
     pub start: usize,
 }
 
-// The number of events and the place after it, or why the record is refused before any event.
-#[derive(Clone, Copy)]
-enum Head {
-    Refused(u8),
-    Events(usize, usize),
-}
-
 fn refused(refusal: u8) -> Checked
     ensures { result ≡ refused_record refusal }
 {
@@ -37,32 +28,16 @@ fn refused(refusal: u8) -> Checked
     }
 }
 
-// The form number and the number of events.
-fn read_head(bytes: &[u8]) -> Head
+// The number of events and the place after it, or why the record is refused before any event.
+fn read_head(bytes: &[u8]) -> Result<(usize, usize), u8>
     ensures { result ≡ head_of bytes.now }
 {
-    let form = read_number(bytes, 0);
-    let Read::Number(f, at) = form else {
-        return Head::Refused(NO_RECORD);
-    };
-    if f != FORM_1 {
-        return Head::Refused(OTHER_FORM);
+    let (form, at) = read_number(bytes, 0).ok_or(NO_RECORD)?;
+    if form != FORM_1 {
+        return Err(OTHER_FORM);
     }
-    let count = read_number(bytes, at);
-    let Read::Number(n, next) = count else {
-        return Head::Refused(NO_RECORD);
-    };
-    Head::Events(n as usize, next)
-}
-
-// Whether all numbers so far were events, and this one is too.
-fn still(known: bool, x: u16) -> bool
-    ensures { result ≡ known and (x ≤? second) }
-{
-    if known {
-        return x <= Session::SECOND as u16;
-    }
-    false
+    let (count, start) = read_number(bytes, at).ok_or(NO_RECORD)?;
+    Ok((count as usize, start))
 }
 
 // The refusal number, 0 for none, of so many numbers from a place on, which must end the bytes. Broken rules
@@ -70,25 +45,19 @@ fn still(known: bool, x: u16) -> bool
 fn scan(bytes: &[u8], at: usize, count: usize) -> u8
     ensures { result ≡ events_refusal count bytes.now at }
 {
-    let mut left = count;
     let mut next = at;
     let mut known = true;
-    while 0 < left {
-        let read = read_number(bytes, next);
-        let Read::Number(x, behind) = read else {
+    'numbers: for _ in 0..count {
+        let Some((x, behind)) = read_number(bytes, next) else {
             return NO_RECORD;
         };
-        known = still(known, x);
+        known = known && x <= Session::SECOND as u16;
         next = behind;
-        left = left - 1;
     }
     if next != bytes.len() {
         return NO_RECORD;
     }
-    if known {
-        return 0;
-    }
-    NO_EVENT
+    if known { 0 } else { NO_EVENT }
 }
 
 // Looks the events of a record through, so many from a place on.
@@ -110,9 +79,8 @@ fn check_events(bytes: &[u8], start: usize, count: usize) -> Checked
 pub fn check_record(bytes: &[u8]) -> Checked
     ensures { result ≡ checked bytes.now }
 {
-    let head = read_head(bytes);
-    match head {
-        Head::Refused(refusal) => refused(refusal),
-        Head::Events(count, start) => check_events(bytes, start, count),
+    match read_head(bytes) {
+        Ok((count, start)) => check_events(bytes, start, count),
+        Err(refusal) => refused(refusal),
     }
 }

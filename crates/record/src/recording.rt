@@ -31,14 +31,7 @@ fn refused(refusal: u8) -> Recorded
 fn are_events(events: &[u8]) -> bool
     ensures { result ≡ are_events events.now }
 {
-    let mut i = 0;
-    while i < events.len() {
-        if Session::SECOND < events[i] {
-            return false;
-        }
-        i = i + 1;
-    }
-    true
+    events.iter().all(|e| *e <= Session::SECOND)
 }
 
 // Records events in the room. An event is one group, its own byte, so that they are copied.
@@ -50,16 +43,15 @@ pub fn record(events: &[u8], room: &mut [u8]) -> Recorded
     if MAX_EVENTS < n {
         return refused(NO_RECORD);
     }
-    let known = are_events(events);
-    if !known {
+    if !are_events(events) {
         return refused(NO_EVENT);
     }
     let length = 1 + group_count(n as u16) + n;
     if room.len() < length {
         return refused(NO_ROOM);
     }
-    let at = write_number(&mut *room, 0, FORM_1);
-    let start = write_number(&mut *room, at, n as u16);
-    put_bytes(&mut *room, start, events);
+    let at = write_number(room, 0, FORM_1);
+    let start = write_number(room, at, n as u16);
+    put_bytes(room, start, events);
     Recorded { refusal: 0, length }
 }

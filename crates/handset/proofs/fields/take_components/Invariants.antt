@@ -1,5 +1,5 @@
 -- The loop's invariant: with the components that are left, what is there comes to the whole.
-use Prim.Native.Nat.{◌+◌}
+use Prim.Native.Nat.{◌+◌, ◌-◌}
 use mathlib.Core.Path.{◌≡◌}
 use lib.ListN.{length}
 use Rattle.cmf.specs.Places.{components_from}
@@ -7,8 +7,6 @@ use Rattle.handset.specs.Taking.{gathered}
 use Rattle.handset.proofs.Filling.{gathered_at}
 use Rattle.handset.proofs.fields.take_components.Given as goal
 
-abbrev pub invariant-loop-left : goal.invariant-loop-left
-invariant-loop-left l = (gathered_at l.image (components_from l.image l.left l.c) (gathered l.sheet l.count l.places) ≡ gathered_at l.image (components_from l.image (length l.image + 1) l.p) (gathered l.initial.sheet l.k l.initial.places)) × ((length l.sheet ≡ length l.initial.sheet) × (length l.places ≡ length l.initial.places))
-
-abbrev pub decreases-loop-left : goal.decreases-loop-left
-decreases-loop-left l = l.left
+abbrev pub invariant-components : goal.invariant-components
+invariant-components l =
+    gathered_at l.image (components_from l.image (length l.image + 1 - l.counter) l.at) (gathered l.sheet l.count l.places) ≡ gathered_at l.image (components_from l.image (length l.image + 1) l.p) (gathered l.initial.sheet l.k l.initial.places)

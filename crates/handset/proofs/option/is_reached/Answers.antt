@@ -1,20 +1,16 @@
--- Each return is the case of the definition that the tests on its path choose.
+-- A search of the index answers by the entries' places.
+use mathlib.Core.Path.{◌≡◌, refl}
 use native.Mathlib.Omega.{arith}
-use mathlib.Core.Path.{◌≡◌, refl, sym}
-use Rattle.cmf.specs.Places.{is_in}
-use Rattle.acceptance.specs.Index.{listed}
-use Rattle.handset.proofs.Finding.{found, still_none}
+use Rattle.std.proofs.Common.{◌≢◌, rules}
+use borrow.Author.Tests.{tests}
+use Rattle.std.proofs.lemmas.Iterator.{cases_from_any, YieldsList-from_range}
+use Rattle.acceptance.specs.Index.{entry_at}
+use Rattle.handset.proofs.Finding.{searched}
 use Rattle.handset.proofs.option.is_reached.Goals as goal
 
-pub loop-i-init : goal.loop-i-init
-unfolding is_in listed
-loop-i-init c = (refl, omega arith)
-
-pub returns-then-e-place : goal.returns-then-e-place
-returns-then-e-place c = sym (found c.args.place c.args.index.now c.loop-i.i c.args.k c.loop-i-test.true (rw c.entry_at-e.ensures at c.if-e-place.true))
-
-pub loop-i-preserved : goal.loop-i-preserved
-loop-i-preserved c = (still_none c.args.place c.args.index.now c.loop-i.i c.loop-i.invariant.0 (rw c.entry_at-e.ensures at c.if-e-place.false), omega arith)
-
 pub returns : goal.returns
-returns c = let z : c.loop-i.i ≡ c.args.k = omega arith in rw (← z) (sym c.loop-i.invariant.0)
+returns c =
+    let a = c.args in
+    searched a.place a.index.now a.k c.any.result
+    (cases_from_any _ _ _ (λ i. (entry_at a.index.now i).place.0 ≡ a.place) (λ i. (entry_at a.index.now i).place.0 ≢ a.place) c.any.ensures.ran
+    (YieldsList-from_range 0 a.k a.k refl (omega arith)) (λ i q k. search (rules, tests)) (λ i q k. search (rules, tests)))

@@ -12,6 +12,6 @@ pub returns-then-n-lt16384 : goal.returns-then-n-lt16384
 unfolding encoded
 returns-then-n-lt16384 c = search (choices, arith)
 
-pub returns : goal.returns
+pub returns-else-n-lt16384 : goal.returns-else-n-lt16384
 unfolding encoded
-returns c = search (choices, arith)
+returns-else-n-lt16384 c = search (choices, arith)

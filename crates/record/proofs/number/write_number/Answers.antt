@@ -4,12 +4,14 @@ use lib.ListN.{length-set}
 use Rattle.record.proofs.Groups.{one_group, two_groups, three_groups, count_one, count_two, count_three}
 use Rattle.record.proofs.Stores.{stored_none, stored_one, stored_two, stored_three}
 use Rattle.record.proofs.number.write_number.Goals as goal
+use Rattle.record.proofs.number.write_number.Goals.{then-room-at-via-then-room-at, then-room-at-via-else-room-at+then-room-at-2}
 
 pub returns-then-room-at : goal.returns-then-room-at
-returns-then-room-at c = stored_none _ _ _ (omega (arith, c.if-room-at.true))
-
-pub returns-then-room-at-2 : goal.returns-then-room-at-2
-returns-then-room-at-2 c = stored_none _ _ _ (omega (arith, c.if-room-at-2.true, c.group_count-count.ensures))
+returns-then-room-at c =
+    stored_none _ _ _ (elim c.then-room-at.branch [
+      | then-room-at-via-then-room-at w ↦ omega (arith, w.if-room-at.true)
+      | then-room-at-via-else-room-at+then-room-at-2 w ↦ omega (arith, w.if-room-at-2.true, c.group_count-count.ensures)
+    ])
 
 pub bounds-room-at : goal.bounds-room-at
 bounds-room-at c = omega (arith, c.group_count-count.ensures, count_one _ c.if-n-lt128.true)

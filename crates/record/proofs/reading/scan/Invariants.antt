@@ -1,12 +1,13 @@
 -- The loop's invariant: whether the numbers that are left end the bytes, and whether all are events, is what it was at the start.
+use Prim.Native.Nat.{◌-◌}
 use mathlib.Core.Path.{◌≡◌}
 use Rattle.laws.specs.Choice.{◌and◌}
 use Rattle.record.specs.Numbers.{numbers_at}
 use Rattle.record.specs.Forms.{are_events, is_sequence}
 use Rattle.record.proofs.reading.scan.Given as goal
 
-abbrev pub invariant-loop-left : goal.invariant-loop-left
-invariant-loop-left l = (is_sequence l.left l.bytes l.next ≡ is_sequence l.count l.bytes l.at) × ((l.known and are_events (numbers_at l.left l.bytes l.next)) ≡ are_events (numbers_at l.count l.bytes l.at))
-
-abbrev pub decreases-loop-left : goal.decreases-loop-left
-decreases-loop-left l = l.left
+abbrev pub invariant-numbers : goal.invariant-numbers
+invariant-numbers l = record {
+  row : is_sequence (l.count - l.counter) l.bytes l.next ≡ is_sequence l.count l.bytes l.at;
+  events : (l.known and are_events (numbers_at (l.count - l.counter) l.bytes l.next)) ≡ are_events (numbers_at l.count l.bytes l.at);
+}

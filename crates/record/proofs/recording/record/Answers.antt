@@ -11,9 +11,9 @@ returns-then-n-gt-MAX_EVENTS c =
     let told = too_many _ _ _ c.if-n-gt-MAX_EVENTS.true c.refused.ensures in
     record { value = told.0; room_after = told.1 }
 
-pub returns-then-not-known : goal.returns-then-not-known
-returns-then-not-known c =
-    let told = bad_event _ _ c.if-n-gt-MAX_EVENTS.false _ (sym c.are_events-known.ensures ∙ c.if-not-known.true) c.refused-then-not-known.ensures in
+pub returns-then-not-are_events : goal.returns-then-not-are_events
+returns-then-not-are_events c =
+    let told = bad_event _ _ c.if-n-gt-MAX_EVENTS.false _ (sym c.are_events.ensures ∙ c.if-not-are_events.true) c.refused-then-not-are_events.ensures in
     record { value = told.0; room_after = told.1 }
 
 pub overflow_add-length : goal.overflow_add-length
@@ -24,10 +24,10 @@ overflow_add-length-2 c = omega (arith, c.group_count.ensures, count_most (lengt
 
 pub returns-then-room-length : goal.returns-then-room-length
 returns-then-room-length c =
-    let told = too_short _ _ c.if-n-gt-MAX_EVENTS.false (sym c.are_events-known.ensures ∙ c.if-not-known.false) _ (rw c.group_count.ensures at c.if-room-length.true) c.refused-then-room-length.ensures in
+    let told = too_short _ _ c.if-n-gt-MAX_EVENTS.false (sym c.are_events.ensures ∙ c.if-not-are_events.false) _ (rw c.group_count.ensures at c.if-room-length.true) c.refused-then-room-length.ensures in
     record { value = told.0; room_after = told.1 }
 
 pub returns : goal.returns
 returns c =
-    let told = is_recorded _ _ c.if-n-gt-MAX_EVENTS.false (sym c.are_events-known.ensures ∙ c.if-not-known.false) (rw c.group_count.ensures at c.if-room-length.false) _ _ _ _ _ _ c.write_number-at.ensures.0 c.write_number-at.ensures.1 c.write_number-start.ensures.0 c.write_number-start.ensures.1 c.put_bytes.ensures c.group_count.ensures in
+    let told = is_recorded _ _ c.if-n-gt-MAX_EVENTS.false (sym c.are_events.ensures ∙ c.if-not-are_events.false) (rw c.group_count.ensures at c.if-room-length.false) _ _ _ _ _ _ c.write_number-at.ensures.0 c.write_number-at.ensures.1 c.write_number-start.ensures.0 c.write_number-start.ensures.1 c.put_bytes.ensures c.group_count.ensures in
     record { value = told.0; room_after = told.1 }
