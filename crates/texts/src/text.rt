@@ -63,7 +63,7 @@ pub fn width_of(kind: Kind) -> usize
 fn cell_at(cells: &[u32], i: usize) -> u32
     ensures { result ≡ get_or cells.now i 0 }
 {
-    if i < cells.len() { cells[i] } else { 0 }
+    cells.get(i).copied().unwrap_or(0)
 }
 
 // The digits in count cells from one on.
