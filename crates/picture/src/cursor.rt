@@ -49,7 +49,7 @@ fn cells_before(image: &[u8], line: usize, place: usize) -> usize
     let h = read_head(image, line);
     let mut p = h.component.0;
     let mut sum = 0;
-    for _ in 0..=image.len() {
+    for _ in 0..image.len() + 1 {
         if p == place {
             return sum;
         }

@@ -60,7 +60,7 @@ fn put_data(
     let mut at = start;
     let mut mark = 0;
     let mut p = first;
-    for _ in 0..=image.len() {
+    for _ in 0..image.len() + 1 {
         if row.len() <= at {
             return Marked {
                 end: row.len(),

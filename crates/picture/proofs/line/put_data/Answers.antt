@@ -1,9 +1,8 @@
 -- The loop: what the components from here on show is left; while there is no mark, it is that of the components from here on.
 use Prim.Native.Nat.{◌+◌, ◌-◌}
-use mathlib.Core.Path.{◌≡◌, refl, ap, ◌∙◌}
+use mathlib.Core.Path.{◌≡◌, refl}
 use native.Mathlib.Omega.{arith}
 use lib.ListN.{length}
-use Rattle.laws.proofs.Overwriting.{length_over}
 use Rattle.texts.proofs.Writing.{rest_start, rest_end}
 use Rattle.picture.proofs.Lines.{data_last, data_next, data_done, mark_told, mark_next}
 use Rattle.picture.proofs.line.put_data.Goals as goal
