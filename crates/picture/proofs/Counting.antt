@@ -55,20 +55,11 @@ unfolding date_part
 part_near year i h k = if_max (i =? 0) (omega arith) (omega arith)
 
 -- what is counted is enough: the last data cell lies before the end of counting
-pub data_near : (im : List ℕ) (s : Session) (p : ℕ) (c : Component) (line before cell last : ℕ) → s.columns ≤ 255 → line ≡ cursor_line im s.here
+pub data_near : (im : List ℕ) (s : Session) (p : ℕ) (c : Component) (line before cell last r : ℕ) → s.columns ≤ 255 → line ≡ cursor_line im s.here
     → before ≡ min 255 (cells_before im p (components_of im line)) → c ≡ component_at im p → cell ≡ cell_within c.field.kind s.work.at → last ≡ s.columns - 3
-    → before + cell < last → before + cell ≡ data_cell im s p
+    → r ≡ min (before + cell) last → r ≡ data_cell im s p
 unfolding data_cell
-data_near im s p c line before cell last w a b e f g h =
-    let o : before ≡ min 255 (cells_before im p (components_of im (cursor_line im s.here))) = b ∙ rw a in
-    let i : cell ≡ cell_within (component_at im p).field.kind s.work.at = f ∙ rw e in
-    omega arith
-
-pub data_far : (im : List ℕ) (s : Session) (p : ℕ) (c : Component) (line before cell last : ℕ) → s.columns ≤ 255 → line ≡ cursor_line im s.here
-    → before ≡ min 255 (cells_before im p (components_of im line)) → c ≡ component_at im p → cell ≡ cell_within c.field.kind s.work.at → last ≡ s.columns - 3
-    → last ≤ before + cell → last ≡ data_cell im s p
-unfolding data_cell
-data_far im s p c line before cell last w a b e f g h =
+data_near im s p c line before cell last r w a b e f g h =
     let o : before ≡ min 255 (cells_before im p (components_of im (cursor_line im s.here))) = b ∙ rw a in
     let i : cell ≡ cell_within (component_at im p).field.kind s.work.at = f ∙ rw e in
     omega arith

@@ -1,8 +1,9 @@
 -- The edit cursor (01, Picture; R31 and R32).
-use Rattle.std.specs.Prelude.{ℕ, ◌+◌, ◌-◌, ◌*◌, min, List, [], ◌∷◌, length}
+use Rattle.std.specs.Prelude.{ℕ, ◌+◌, ◌-◌, ◌*◌, min, List, [], ◌∷◌, length, Option, None, Some}
 use Rattle.laws.specs.Choice.{when◌then◌else◌, ◌=?◌}
 use Rattle.field.specs.declared.kind.Kind.{Kind}
-use Rattle.field.specs.declared.kind.Kind.TheVariants.{Integer, Counter, Time, Date, Switch, Option, Trigger}
+use Rattle.field.specs.declared.kind.Kind.TheVariants as kind
+use Rattle.field.specs.declared.kind.Kind.TheVariants.{Integer, Counter, Time, Date, Switch, Trigger}
 use Rattle.cmf.specs.Readers.{text_bytes, component_at}
 use Rattle.cmf.specs.Places.{components_of}
 use Rattle.cmf.specs.declared.component.Component.{Component}
@@ -12,12 +13,11 @@ use Rattle.session.specs.declared.session.Mode.TheVariants as mode
 use Rattle.session.specs.declared.session.Session.{Session}
 use Rattle.texts.specs.Texts.{year_cells, width_of}
 use Rattle.picture.specs.declared.cursor.EditCursor.{EditCursor}
-use Rattle.picture.specs.declared.cursor.EditCursor.TheVariants.{Nowhere, At}
 
 -- the answer's numbers: none, or the row and the column, both from 0
-unfoldable pub cursor_place : EditCursor → List ℕ
-cursor_place Nowhere = []
-cursor_place (At row column) = row ∷ column ∷ []
+unfoldable pub cursor_place : Option EditCursor → List ℕ
+cursor_place None = []
+cursor_place (Some c) = c.row ∷ c.column ∷ []
 
 -- R32: the first cell of part i of a date whose year has so many digits
 unfoldable pub date_part : ℕ → ℕ → ℕ
@@ -30,7 +30,7 @@ cell_within (Counter s) i = s.width - 1
 cell_within (Time long) i = 3 * i
 cell_within (Date long) i = date_part (year_cells long) i
 cell_within (Switch n) i = i
-cell_within (Option n w) i = 0
+cell_within (kind.Option n w) i = 0
 cell_within Trigger i = 1
 
 -- the cells of the component at a place

@@ -25,17 +25,13 @@ pub(crate) fn put_component(
     ensures { Put row.old at
         (component_text image.now sheet.now session place c) row.new result }
 {
-    let field = c.field;
-    let kind = field.kind;
-    let mode = session.mode;
-    if c.fielded {
-        let open = visits(mode, place);
-        if open {
-            return put_cells(&mut *row, at, image, place, kind, cells);
-        }
-        return put_field(&mut *row, at, image, sheet, place, field);
+    if !c.fielded {
+        return put_all(row, at, string_bytes(image, place));
     }
-    put_all(&mut *row, at, string_bytes(image, place))
+    if visits(session.mode, place) {
+        return put_cells(row, at, image, place, c.field.kind, cells);
+    }
+    put_field(row, at, image, sheet, place, c.field)
 }
 
 // Whether a visit of the component at a place is open.
@@ -43,8 +39,7 @@ fn visits(mode: Mode, place: usize) -> bool
     ensures { result ≡ visiting mode place }
 {
     match mode {
-        Mode::Browsing => false,
         Mode::Visit(p) => p.0 == place,
-        Mode::Password(_) => false,
+        Mode::Browsing | Mode::Password(_) => false,
     }
 }

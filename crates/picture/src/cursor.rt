@@ -9,13 +9,13 @@ use cmf::head::read_head;
 use cmf::text::string_bytes;
 use field::kind::Kind;
 use session::session::{Mode, Session};
-use texts::text::{less, width_of, year_cells};
+use texts::text::{width_of, year_cells};
 
-// None, or its row and column, both from 0.
+// Its row and column, both from 0.
 #[derive(Clone, Copy)]
-pub enum EditCursor {
-    Nowhere,
-    At { row: usize, column: usize },
+pub struct EditCursor {
+    pub row: usize,
+    pub column: usize,
 }
 
 impl EditCursor {
@@ -27,10 +27,8 @@ impl EditCursor {
 fn width_at(image: &[u8], c: Component, place: usize) -> usize
     ensures { result ≡ width_at image.now place c }
 {
-    let field = c.field;
-    let kind = field.kind;
     if c.fielded {
-        return width_of(kind);
+        return width_of(c.field.kind);
     }
     string_bytes(image, place).len()
 }
@@ -40,10 +38,7 @@ fn counted(a: usize, b: usize) -> usize
     requires { a ≤ 255 }
     ensures { result ≡ min 255 (a + b) }
 {
-    if b < EditCursor::FAR - a {
-        return a + b;
-    }
-    EditCursor::FAR
+    a + b.min(EditCursor::FAR - a)
 }
 
 // The cells of the components of a line that are before the one at a place, as far as they are counted.
@@ -54,8 +49,7 @@ fn cells_before(image: &[u8], line: usize, place: usize) -> usize
     let h = read_head(image, line);
     let mut p = h.component.0;
     let mut sum = 0;
-    let mut left = image.len() + 1;
-    while 0 < left {
+    for _ in 0..image.len() + 1 {
         if p == place {
             return sum;
         }
@@ -65,7 +59,6 @@ fn cells_before(image: &[u8], line: usize, place: usize) -> usize
             return sum;
         }
         p = c.next.0;
-        left = left - 1;
     }
     sum
 }
@@ -86,15 +79,11 @@ fn cell_within(kind: Kind, at: u8) -> usize
 {
     let i = at as usize;
     match kind {
-        Kind::Integer(_) => i,
-        Kind::Counter(s) => less(s.width as usize, 1),
+        Kind::Integer(_) | Kind::Switch(_) => i,
+        Kind::Counter(s) => (s.width as usize).saturating_sub(1),
         Kind::Time(_) => 3 * i,
         Kind::Date(long) => date_part(year_cells(long) as usize, i),
-        Kind::Switch(_) => i,
-        Kind::Option {
-            items: _,
-            longest: _,
-        } => 0,
+        Kind::Option { .. } => 0,
         Kind::Trigger => 1,
     }
 }
@@ -105,28 +94,20 @@ fn data_cell(image: &[u8], session: Session, place: usize) -> usize
 {
     let before = cells_before(image, session.here.cursor_line(image), place);
     let c = read_component(image, place);
-    let field = c.field;
-    let kind = field.kind;
-    let cell = before + cell_within(kind, session.work.at);
-    let last = less(session.columns as usize, 3);
-    if cell < last {
-        return cell;
-    }
-    last
+    let cell = before + cell_within(c.field.kind, session.work.at);
+    cell.min((session.columns as usize).saturating_sub(3))
 }
 
-// Where the edit cursor is.
-pub fn edit_cursor(image: &[u8], session: Session) -> EditCursor
+// Where the edit cursor is, if there is one.
+pub fn edit_cursor(image: &[u8], session: Session) -> Option<EditCursor>
     ensures { cursor_place result ≡ edit_cursor image.now session }
 {
     let here = session.here;
-    let mode = session.mode;
-    match mode {
-        Mode::Browsing => EditCursor::Nowhere,
-        Mode::Visit(p) => EditCursor::At {
-            row: less(1 + here.cursor as usize, here.first as usize),
+    match session.mode {
+        Mode::Visit(p) => Some(EditCursor {
+            row: (1 + here.cursor as usize).saturating_sub(here.first as usize),
             column: 1 + data_cell(image, session, p.0),
-        },
-        Mode::Password(_) => EditCursor::Nowhere,
+        }),
+        Mode::Browsing | Mode::Password(_) => None,
     }
 }

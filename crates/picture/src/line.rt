@@ -12,7 +12,7 @@ use crate::component::put_component;
 use cmf::component::read_component;
 use cmf::head::Head;
 use session::session::Session;
-use texts::row::{pad, put, smaller};
+use texts::row::{pad, put};
 
 // Where a line's data end, and its mark in row 0: whether a component is editable, or 0 where the row does
 // not tell.
@@ -60,8 +60,7 @@ fn put_data(
     let mut at = start;
     let mut mark = 0;
     let mut p = first;
-    let mut left = image.len() + 1;
-    while 0 < left {
+    for _ in 0..image.len() + 1 {
         if row.len() <= at {
             return Marked {
                 end: row.len(),
@@ -69,16 +68,15 @@ fn put_data(
             };
         }
         let c = read_component(image, p);
-        at = put_component(&mut *row, at, image, sheet, session, cells, c, p);
+        at = put_component(row, at, image, sheet, session, cells, c, p);
         mark = mark_by(mark, c.editable, c.last);
         if c.last {
             return Marked { end: at, mark };
         }
         p = c.next.0;
-        left = left - 1;
     }
     Marked {
-        end: smaller(row.len(), at),
+        end: at.min(row.len()),
         mark,
     }
 }
@@ -120,9 +118,9 @@ fn put_start(
         ∷ data_text image.now sheet.now session
         (rest_of_line image.now first)) }
 {
-    let start = put(&mut *row, 0, cursor_mark(k, session.here.cursor));
-    let data = put_data(&mut *row, start, image, sheet, session, cells, first);
-    pad(&mut *row, data.end);
+    let start = put(row, 0, cursor_mark(k, session.here.cursor));
+    let data = put_data(row, start, image, sheet, session, cells, first);
+    pad(row, data.end);
     data.mark
 }
 

@@ -122,9 +122,9 @@ fn put_row(
     ensures row_after { row.new ≡ row_at image.now sheet.now session count k p }
 {
     if k < count {
-        return put_line(&mut *row, image, sheet, session, cells, k, p, h);
+        return put_line(row, image, sheet, session, cells, k, p, h);
     }
-    pad(&mut *row, 0);
+    pad(row, 0);
     0
 }
 
@@ -189,7 +189,7 @@ fn write_picture(image: &[u8], sheet: &[u8], session: Session, picture: &mut [u8
         × (length picture.old ≡ session.columns * session.lines) }
     ensures { picture.new ≡ picture_of image.now sheet.now session }
 {
-    let known = put_rows(image, sheet, session, &mut *picture);
+    let known = put_rows(image, sheet, session, picture);
     let columns = session.columns as usize;
     put_top(
         &mut picture[..columns],
@@ -214,5 +214,5 @@ pub fn put_picture(image: &[u8], sheet: &[u8], session: Session, picture: &mut [
     if picture.len() != session.columns as usize * session.lines as usize {
         return;
     }
-    write_picture(image, sheet, session, &mut *picture);
+    write_picture(image, sheet, session, picture);
 }

@@ -15,7 +15,6 @@ use laws::byte_at;
 use laws::digits::first_digit;
 use session::session::{Level, Mode, Session};
 use texts::row::{pad, put, put_all, repeat};
-use texts::text::less;
 
 // The cursor line of a level is at a place; its mark is given, or 0.
 fn edit_mark(image: &[u8], level: Level, line: usize, mark: u8) -> u8
@@ -65,10 +64,10 @@ fn put_marks(row: &mut [u8], at: usize, edit: u8, cursor: u8, more: u8)
 {
     let hundreds = first_digit(cursor as u32 + 1, 3);
     let tens = first_digit(hundreds.rest, 2);
-    let high = put(&mut *row, at, edit);
-    let low = put(&mut *row, high, tens_char(10 * hundreds.digit + tens.digit));
-    let last = put(&mut *row, low, b'0' + tens.rest as u8);
-    put(&mut *row, last, more);
+    let high = put(row, at, edit);
+    let low = put(row, high, tens_char(10 * hundreds.digit + tens.digit));
+    let last = put(row, low, b'0' + tens.rest as u8);
+    put(row, last, more);
 }
 
 // The title with the marks and the number of the cursor line, which is at a place; `count` lines are known,
@@ -85,11 +84,11 @@ fn put_title(row: &mut [u8], image: &[u8], session: Session, count: usize, line:
     let columns = session.columns as usize;
     let cursor = here.cursor;
     let rows = session.lines as usize - 1;
-    let end = put_all(&mut *row, 0, text_bytes(image, here.table.0));
-    pad(&mut *row, end);
+    let end = put_all(row, 0, text_bytes(image, here.table.0));
+    pad(row, end);
     let edit = edit_mark(image, here, line, mark);
     let more = more_mark(count, rows, cursor);
-    put_marks(&mut *row, columns - 4, edit, cursor, more);
+    put_marks(row, columns - 4, edit, cursor, more);
 }
 
 // The row of a password entry with so many digits typed.
@@ -100,10 +99,10 @@ fn put_password(row: &mut [u8], image: &[u8], session: Session, line: usize, typ
     let h = read_head(image, line);
     let digits = byte_at(image, h.password.0) as usize;
     let n = typed as usize;
-    let stars = put_all(&mut *row, 0, b"Pwd:");
-    let dots = repeat(&mut *row, stars, b'*', n);
-    let end = repeat(&mut *row, dots, b'.', less(digits, n));
-    pad(&mut *row, end);
+    let stars = put_all(row, 0, b"Pwd:");
+    let dots = repeat(row, stars, b'*', n);
+    let end = repeat(row, dots, b'.', digits.saturating_sub(n));
+    pad(row, end);
 }
 
 // Whether the entry of a password is open, and so many digits are typed.
@@ -153,8 +152,8 @@ pub(crate) fn put_top(
 {
     let entry = entry_of(image, session);
     if entry.open {
-        put_password(&mut *row, image, session, line, entry.typed);
+        put_password(row, image, session, line, entry.typed);
         return;
     }
-    put_title(&mut *row, image, session, count, line, mark);
+    put_title(row, image, session, count, line, mark);
 }

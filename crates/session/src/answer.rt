@@ -24,10 +24,7 @@ fn with_place(number: u32, place: ImagePlace) -> u32
     requires { number ≤ fired_from }
     ensures { result ≡ number + min place.0 most_place }
 {
-    if place.0 < Answer::MAX_PLACE {
-        return number + place.0 as u32;
-    }
-    number + Answer::MAX_PLACE as u32
+    number + place.0.min(Answer::MAX_PLACE) as u32
 }
 
 impl Answer {
@@ -99,18 +96,11 @@ impl Session {
     pub(crate) fn in_mode(self, mode: Mode, work: Work, typed: [u8; Image::MAX_PASSWORD]) -> Self
         ensures { result ≡ in_mode self mode work typed }
     {
-        let above = self.above;
-        let here = self.here;
         Session {
-            columns: self.columns,
-            lines: self.lines,
-            outer: self.outer,
-            above,
-            here,
-            idle: self.idle,
             mode,
             work,
             typed,
+            ..self
         }
     }
 }

@@ -20,10 +20,7 @@ fn first_for(rows: usize, cursor: u8, first: u8) -> u8
         return cursor;
     }
     let at = cursor as usize;
-    if at < rows {
-        return first;
-    }
-    if at - rows < first as usize {
+    if at < rows || at - rows < first as usize {
         return first;
     }
     (at + 1 - rows) as u8
@@ -35,14 +32,12 @@ impl Session {
         ensures { result ≡ cursor_on self cursor }
     {
         let here = self.here;
-        let table = here.table;
         let first = first_for(rows_below(self.lines), cursor, here.first);
-        let level = Level {
-            table,
+        self.with_here(Level {
             cursor,
             first,
-        };
-        self.with_here(level)
+            ..here
+        })
     }
 
     fn up(self) -> Stepped
@@ -69,13 +64,11 @@ impl Session {
     fn left(mut self) -> Stepped
         ensures { result ≡ left_step self }
     {
-        let outer = self.outer;
-        if outer == 0 {
+        if self.outer == 0 {
             return self.flash();
         }
-        let level = self.above_at((outer - 1) as usize);
-        self.here = level;
-        self.outer = outer - 1;
+        self.outer -= 1;
+        self.here = self.above_at(self.outer as usize);
         self.taken()
     }
 
@@ -85,15 +78,13 @@ impl Session {
     {
         let at = self.outer as usize;
         if at + 1 < Image::MAX_DEPTH {
-            let here = self.here;
-            let level = Level {
+            self.above[at] = self.here;
+            self.here = Level {
                 table: ImagePlace(table),
                 cursor: 0,
                 first: 0,
             };
-            self.above[at] = here;
-            self.here = level;
-            self.outer = self.outer + 1;
+            self.outer += 1;
             return self.taken();
         }
         self.flash()
@@ -105,9 +96,9 @@ impl Session {
         let h = self.here.cursor_head(image);
         if h.submenu {
             if h.protected {
-                let work = self.work;
-                let typed = self.typed;
-                return self.in_mode(Mode::Password(0), work, typed).taken();
+                return self
+                    .in_mode(Mode::Password(0), self.work, self.typed)
+                    .taken();
             }
             return self.descend(h.table.0);
         }
@@ -118,11 +109,8 @@ impl Session {
     pub(crate) fn visit_at(self, image: &[u8], sheet: &[u8], place: ImagePlace) -> Self
         ensures { result ≡ visit_at image.now sheet.now self place }
     {
-        let c = read_component(image, place.0);
-        let field = c.field;
-        let work = field.begin(sheet);
-        let typed = self.typed;
-        self.in_mode(Mode::Visit(place), work, typed)
+        let work = read_component(image, place.0).field.begin(sheet);
+        self.in_mode(Mode::Visit(place), work, self.typed)
     }
 
     fn enter(self, image: &[u8], sheet: &[u8]) -> Stepped

@@ -21,26 +21,17 @@ use laws::byte_at;
 pub fn shape_fits(columns: u8, lines: u8) -> bool
     ensures { result ≡ shape_fits columns lines }
 {
-    if columns < Session::MIN_COLUMNS {
+    if columns < Session::MIN_COLUMNS || Session::MAX_COLUMNS < columns {
         return false;
     }
-    if Session::MAX_COLUMNS < columns {
-        return false;
-    }
-    if lines < Session::MIN_LINES {
-        return false;
-    }
-    lines <= Session::MAX_LINES
+    Session::MIN_LINES <= lines && lines <= Session::MAX_LINES
 }
 
 // One less, or 0.
 pub(crate) fn rows_below(lines: u8) -> usize
     ensures { result ≡ lines - 1 }
 {
-    if lines == 0 {
-        return 0;
-    }
-    (lines - 1) as usize
+    lines.saturating_sub(1) as usize
 }
 
 impl Level {
@@ -85,13 +76,7 @@ fn work_fits(kind: Kind, work: Work) -> bool
     ensures { result ≡ work_fits kind work }
 {
     let p = profile_of(kind);
-    if work.at < p.cells {
-        if p.fires {
-            return true;
-        }
-        return work.legal(kind);
-    }
-    false
+    work.at < p.cells && (p.fires || work.legal(kind))
 }
 
 impl Session {
@@ -149,33 +134,21 @@ fn shown_line(
 fn visit_fits(image: &[u8], line: usize, place: usize, work: Work) -> bool
     ensures { result ≡ visit_fits image.now line work place }
 {
-    let on_line = is_on_line(image, line, place);
-    if !on_line {
+    if !is_on_line(image, line, place) {
         return false;
     }
     let c = read_component(image, place);
-    if !c.fielded {
-        return false;
-    }
-    if !c.editable {
-        return false;
-    }
-    let field = c.field;
-    let kind = field.kind;
-    work_fits(kind, work)
+    c.fielded && c.editable && work_fits(c.field.kind, work)
 }
 
 // Whether the first n numbers typed are digits.
 fn digits_to(typed: [u8; Image::MAX_PASSWORD], n: u8) -> bool
     ensures { result ≡ digits_to typed n }
 {
-    let count = n as usize;
-    let mut i = 0;
-    while i < count {
+    for i in 0..n as usize {
         if Session::LAST_DIGIT < byte_at(&typed, i) {
             return false;
         }
-        i = i + 1;
     }
     true
 }
@@ -185,13 +158,7 @@ fn entry_fits(image: &[u8], line: usize, n: u8, typed: [u8; Image::MAX_PASSWORD]
     ensures { result ≡ entry_fits image.now line typed n }
 {
     let h = read_head(image, line);
-    if !h.protected {
-        return false;
-    }
-    if n < byte_at(image, h.password.0) {
-        return digits_to(typed, n);
-    }
-    false
+    h.protected && n < byte_at(image, h.password.0) && digits_to(typed, n)
 }
 
 impl Session {
@@ -200,27 +167,17 @@ impl Session {
     pub fn fits(self, image: &[u8]) -> bool
         ensures { result ≡ session_fits image.now self }
     {
-        let shape = shape_fits(self.columns, self.lines);
-        if !shape {
+        if !shape_fits(self.columns, self.lines) {
             return false;
         }
-        let above = self.above;
-        let here = self.here;
-        let line = shown_line(image, self.lines, self.outer, above, here);
+        let line = shown_line(image, self.lines, self.outer, self.above, self.here);
         let Some(p) = line else {
             return false;
         };
-        let mode = self.mode;
-        match mode {
+        match self.mode {
             Mode::Browsing => true,
-            Mode::Visit(place) => {
-                let work = self.work;
-                visit_fits(image, p.0, place.0, work)
-            }
-            Mode::Password(n) => {
-                let typed = self.typed;
-                entry_fits(image, p.0, n, typed)
-            }
+            Mode::Visit(place) => visit_fits(image, p.0, place.0, self.work),
+            Mode::Password(n) => entry_fits(image, p.0, n, self.typed),
         }
     }
 }

@@ -15,8 +15,7 @@ fn is_right(image: &[u8], password: usize, typed: [u8; Image::MAX_PASSWORD], cou
     requires { count ≤ 256 }
     ensures { result ≡ right_to image.now (password + 1) typed count }
 {
-    let mut i = 0;
-    while i < count {
+    for i in 0..count {
         if image.len() <= password {
             return false;
         }
@@ -25,7 +24,6 @@ fn is_right(image: &[u8], password: usize, typed: [u8; Image::MAX_PASSWORD], cou
         if b != 0x30 + d {
             return false;
         }
-        i = i + 1;
     }
     true
 }
@@ -54,8 +52,7 @@ impl Session {
         ensures { result ≡ last_digit image.now self h typed count }
     {
         let right = is_right(image, h.password.0, typed, count);
-        let work = self.work;
-        let next = self.in_mode(Mode::Browsing, work, typed);
+        let next = self.in_mode(Mode::Browsing, self.work, typed);
         if right {
             return next.descend(h.table.0);
         }
@@ -68,12 +65,12 @@ impl Session {
             (cursor_head image.now self.here) count d }
     {
         let h = self.here.cursor_head(image);
-        let old = self.typed;
-        let typed = with_digit(old, count, d);
+        let typed = with_digit(self.typed, count, d);
         let n = count as usize + 1;
         if n < byte_at(image, h.password.0) as usize {
-            let work = self.work;
-            return self.in_mode(Mode::Password(count + 1), work, typed).taken();
+            return self
+                .in_mode(Mode::Password(count + 1), self.work, typed)
+                .taken();
         }
         self.last_digit(image, h, typed, n)
     }
@@ -81,9 +78,7 @@ impl Session {
     fn give_up(self) -> Stepped
         ensures { result ≡ taken (browsing self) }
     {
-        let work = self.work;
-        let typed = self.typed;
-        self.in_mode(Mode::Browsing, work, typed).taken()
+        self.in_mode(Mode::Browsing, self.work, self.typed).taken()
     }
 
     // A step during the entry of a password, with count digits typed.

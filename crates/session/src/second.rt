@@ -20,18 +20,14 @@ fn later(idle: u8) -> u8
 fn delay_over(delay: u8, idle: u8) -> bool
     ensures { result ≡ delay_over delay idle }
 {
-    if delay == 0 {
-        return false;
-    }
-    delay <= idle
+    delay != 0 && delay <= idle
 }
 
 impl Session {
     fn waited(mut self) -> Self
         ensures { result ≡ waited self }
     {
-        let idle = later(self.idle);
-        self.idle = idle;
+        self.idle = later(self.idle);
         self
     }
 
@@ -54,8 +50,7 @@ impl Session {
     {
         let read = Image::read(image);
         let next = self.waited();
-        let over = delay_over(read.delays.top, later(self.idle));
-        if over {
+        if delay_over(read.delays.top, later(self.idle)) {
             return next.at_top().taken();
         }
         next.taken()
@@ -67,11 +62,8 @@ impl Session {
     {
         let read = Image::read(image);
         let next = self.waited();
-        let over = delay_over(read.delays.password, later(self.idle));
-        if over {
-            let work = self.work;
-            let typed = self.typed;
-            return next.in_mode(Mode::Browsing, work, typed).taken();
+        if delay_over(read.delays.password, later(self.idle)) {
+            return next.in_mode(Mode::Browsing, self.work, self.typed).taken();
         }
         next.taken()
     }

@@ -89,7 +89,7 @@ impl Session {
             columns,
             lines,
             outer: 0,
-            above: [none, none, none, none, none, none, none],
+            above: [none; Session::MAX_ABOVE],
             here: top,
             idle: 0,
             mode: Mode::Browsing,
@@ -97,7 +97,7 @@ impl Session {
                 cells: [0; Work::CELLS],
                 at: 0,
             },
-            typed: [0, 0, 0, 0, 0, 0, 0, 0],
+            typed: [0; Image::MAX_PASSWORD],
         }
     }
 

@@ -10,10 +10,9 @@ impl Session {
         ensures value { result ≡ step_of image.now sheet.old self event }
         ensures sheet_after { sheet.new ≡ sheet_of image.now sheet.old self event }
     {
-        let mode = self.mode;
-        match mode {
-            Mode::Browsing => self.browse(image, &*sheet, event),
-            Mode::Visit(p) => self.visit(image, &mut *sheet, p, event),
+        match self.mode {
+            Mode::Browsing => self.browse(image, sheet, event),
+            Mode::Visit(p) => self.visit(image, sheet, p, event),
             Mode::Password(n) => self.enter_password(image, n, event),
         }
     }

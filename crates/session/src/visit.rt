@@ -40,8 +40,7 @@ impl Session {
     fn in_visit(self, place: ImagePlace, work: Work) -> Self
         ensures { result ≡ in_visit self place work }
     {
-        let typed = self.typed;
-        self.in_mode(Mode::Visit(place), work, typed)
+        self.in_mode(Mode::Visit(place), work, self.typed)
     }
 
     // The next editable component of the line visited, or editing ended.
@@ -72,8 +71,8 @@ impl Session {
             sheet.old self place field work outcome.Done }
         ensures sheet_after { sheet.new ≡ finished_in field work sheet.old }
     {
-        field.finish(&mut *sheet, work);
-        let session = self.moved_on(image, &*sheet, place.0);
+        field.finish(sheet, work);
+        let session = self.moved_on(image, sheet, place.0);
         Stepped {
             session,
             answer: Answer::Finished(place),
@@ -95,17 +94,15 @@ impl Session {
             ≡ followed_sheet sheet.old field pressed.work pressed.outcome }
     {
         let work = pressed.work;
-        let outcome = pressed.outcome;
-        match outcome {
-            Outcome::Taken => self.in_visit(place, work).taken(),
+        match pressed.outcome {
+            Outcome::Taken | Outcome::NextPart => self.in_visit(place, work).taken(),
             Outcome::Flash => self.flash(),
-            Outcome::NextPart => self.in_visit(place, work).taken(),
-            Outcome::Done => self.finish(image, &mut *sheet, place, field, work),
+            Outcome::Done => self.finish(image, sheet, place, field, work),
             Outcome::Fired => Stepped {
                 session: self,
                 answer: Answer::Fired(place),
             },
-            Outcome::Passed => self.moved_on(image, &*sheet, place.0).taken(),
+            Outcome::Passed => self.moved_on(image, sheet, place.0).taken(),
         }
     }
 
@@ -125,11 +122,8 @@ impl Session {
             return self.taken();
         }
         let c = read_component(image, place.0);
-        let field = c.field;
-        let kind = field.kind;
-        let work = self.work;
-        let pressed = press(kind, work, event);
+        let pressed = press(c.field.kind, self.work, event);
         self.reset_idle()
-            .follow(image, &mut *sheet, place, field, pressed)
+            .follow(image, sheet, place, c.field, pressed)
     }
 }

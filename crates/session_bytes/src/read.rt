@@ -4,7 +4,7 @@ ghost use Rattle.laws.specs.Bytes.{byte_at};
 ghost use Rattle.field.specs.Cells.{most_cells};
 ghost use Rattle.cmf.specs.Limits.{longest_password};
 ghost use Rattle.session_bytes.specs.Numbers.{number_at, numbers_from};
-ghost use Rattle.session_bytes.specs.Layout.{session_size, most_above, level_from, levels_from, mode_by};
+ghost use Rattle.session_bytes.specs.Layout.{most_above, level_from, levels_from, mode_by};
 ghost use Rattle.session_bytes.specs.Layout.{session_in, session_from};
 
 use crate::layout::{
@@ -14,7 +14,6 @@ use crate::number::{cell_at, place_at};
 use cmf::image::Image;
 use field::kind::ImagePlace;
 use field::work::Work;
-use laws::byte_at;
 use session::session::{Level, Mode, Session};
 
 fn level_at(bytes: &[u8], at: usize) -> Level
@@ -23,13 +22,12 @@ fn level_at(bytes: &[u8], at: usize) -> Level
 {
     Level {
         table: ImagePlace(place_at(bytes, at) as usize),
-        cursor: byte_at(bytes, at + 8),
-        first: byte_at(bytes, at + 9),
+        cursor: bytes[at + 8],
+        first: bytes[at + 9],
     }
 }
 
-fn levels(bytes: &[u8]) -> [Level; Session::MAX_ABOVE]
-    requires { length bytes.now ≡ session_size }
+fn levels(bytes: &[u8; SIZE]) -> [Level; Session::MAX_ABOVE]
     ensures { result ≡ levels_from most_above 3 bytes.now }
 {
     [
@@ -44,58 +42,51 @@ fn levels(bytes: &[u8]) -> [Level; Session::MAX_ABOVE]
 }
 
 // A number that is no mode's is browsing; of a count of digits the lowest byte counts.
-fn mode(bytes: &[u8]) -> Mode
-    requires { length bytes.now ≡ session_size }
+fn mode(bytes: &[u8; SIZE]) -> Mode
     ensures { result ≡ mode_by (byte_at bytes.now 84) (number_at 8 85 bytes.now) }
 {
     let of = place_at(bytes, MODE + 1);
-    match byte_at(bytes, MODE) {
+    match bytes[MODE] {
         VISIT => Mode::Visit(ImagePlace(of as usize)),
         PASSWORD => Mode::Password((of % 256) as u8),
         _ => Mode::Browsing,
     }
 }
 
-fn cells(bytes: &[u8]) -> [u32; Work::CELLS]
-    requires { length bytes.now ≡ session_size }
+fn cells(bytes: &[u8; SIZE]) -> [u32; Work::CELLS]
     ensures { result ≡ numbers_from 4 most_cells 94 bytes.now }
 {
     let mut cells = [0; Work::CELLS];
-    let mut i = 0;
-    while i < Work::CELLS {
-        cells[i] = cell_at(bytes, CELLS + CELL * i);
-        i = i + 1;
+    for (i, cell) in cells.iter_mut().enumerate() {
+        *cell = cell_at(bytes, CELLS + CELL * i);
     }
     cells
 }
 
-fn typed(bytes: &[u8]) -> [u8; Image::MAX_PASSWORD]
+fn typed(bytes: &[u8; SIZE]) -> [u8; Image::MAX_PASSWORD]
     ensures { result ≡ numbers_from 1 longest_password 222 bytes.now }
 {
     let mut digits = [0; Image::MAX_PASSWORD];
-    let mut i = 0;
-    while i < Image::MAX_PASSWORD {
-        digits[i] = byte_at(bytes, TYPED + i);
-        i = i + 1;
+    for (i, digit) in digits.iter_mut().enumerate() {
+        *digit = bytes[TYPED + i];
     }
     digits
 }
 
-fn session_in(bytes: &[u8]) -> Session
-    requires { length bytes.now ≡ session_size }
+fn session_in(bytes: &[u8; SIZE]) -> Session
     ensures { result ≡ session_in bytes.now }
 {
     Session {
-        columns: byte_at(bytes, 0),
-        lines: byte_at(bytes, 1),
-        outer: byte_at(bytes, 2),
+        columns: bytes[0],
+        lines: bytes[1],
+        outer: bytes[2],
         above: levels(bytes),
         here: level_at(bytes, HERE),
-        idle: byte_at(bytes, IDLE),
+        idle: bytes[IDLE],
         mode: mode(bytes),
         work: Work {
             cells: cells(bytes),
-            at: byte_at(bytes, CHOSEN),
+            at: bytes[CHOSEN],
         },
         typed: typed(bytes),
     }
@@ -104,8 +95,8 @@ fn session_in(bytes: &[u8]) -> Session
 pub fn read_session(bytes: &[u8]) -> Session
     ensures { result ≡ session_from bytes.now }
 {
-    if bytes.len() == SIZE {
-        return session_in(bytes);
+    match bytes.as_array::<SIZE>() {
+        Some(bytes) => session_in(bytes),
+        None => Session::closed(),
     }
-    Session::closed()
 }

@@ -30,10 +30,9 @@ use Rattle.texts.specs.Texts.{blank, dash, colon, digit_char, sign_char, digit_c
 use Rattle.texts.proofs.Writing.{put_then, same}
 
 -- the next digit cell
-pub digits_cell : (cs : List ℕ) (i left d b : ℕ) → 0 < left → d ≡ get_or cs i 0 → b ≡ digit_char d → digit_cells cs i left ≡ b ∷ digit_cells cs (i + 1) (left - 1)
+pub digits_cell : (cs : List ℕ) (i n k d b : ℕ) → n ≡ suc k → d ≡ get_or cs i 0 → b ≡ digit_char d → digit_cells cs i n ≡ b ∷ digit_cells cs (i + 1) k
 unfolding digit_cells
-digits_cell cs i zero d b h e f = absurd (omega arith)
-digits_cell cs i (suc k) d b h e f = let a : suc k - 1 ≡ k = omega arith in rw (a, f, e)
+digits_cell cs i n k d b h e f = rw (h, f, e)
 
 pub length_digits : (cs : List ℕ) (i n : ℕ) → length (digit_cells cs i n) ≡ n
 unfolding digit_cells

@@ -3,13 +3,14 @@ use Prim.Native.Nat.{ℕ, zero, suc, ◌+◌, ◌-◌, ◌≤◌, ◌<◌, min}
 use mathlib.Core.Path.{◌≡◌, refl, sym, ap, ◌∙◌}
 use mathlib.Core.List.{List, [], ◌∷◌, ◌++◌}
 use native.Mathlib.Omega.{arith}
-use lib.ListN.{length, drop, set, get_or, replicate, length-append}
-use lib.Seq.{drop-cons}
+use lib.ListN.{length, take, drop, set, replicate, length-append, length-drop, length-take, length-replicate}
+use lib.Seq.{length-take-le}
+use Rattle.std.proofs.lemmas.List.{take-replicate}
 use borrow.Author.Tests.{leb-true, leb-false}
 use Rattle.laws.proofs.Cases.{by_test}
 use Rattle.laws.specs.Choice.{◌≤?◌}
 use Rattle.laws.specs.Overwrite.{fit, over}
-use Rattle.laws.proofs.Overwriting.{length_over, length_fit, over_cons, over_nil, over_out, over_over, over_all}
+use Rattle.laws.proofs.Overwriting.{length_over, length_fit, over_cons, over_nil, over_out, over_over, over_all, over_back}
 use Rattle.texts.specs.Row.{Put}
 
 -- ---- one after the other
@@ -42,6 +43,35 @@ put_out d t at h = record {
   ends = omega arith;
 }
 
+-- ---- a part of a row that comes back written
+
+-- of a text that has no room the rest is dropped
+over_cut : (d : List ℕ) (at n : ℕ) (s : List ℕ) → n ≡ min (length s) (length d - at) → over d at (take n s) ≡ over d at s
+unfolding over
+over_cut [] at n s e = refl
+over_cut (x ∷ d) zero zero [] e = refl
+over_cut (x ∷ d) zero zero (y ∷ s) e = absurd (omega arith)
+over_cut (x ∷ d) zero (suc n) [] e = refl
+over_cut (x ∷ d) zero (suc n) (y ∷ s) e = ap (λ (r : List ℕ). y ∷ r) (over_cut d zero n s (omega arith))
+over_cut (x ∷ d) (suc at) n s e = ap (λ (r : List ℕ). x ∷ r) (over_cut d at n s (omega arith))
+
+pub put_part : (d s e : List ℕ) (at n : ℕ) → at < length d → n ≡ min (length s) (length d - at) → e ≡ take n s
+    → Put d at s (take at d ++ (e ++ drop (at + n - at) (drop at d))) (at + n)
+put_part d s e at n h q p =
+    let z : at + n - at ≡ n = omega arith in
+    let l : length e ≡ n = ap length p ∙ length-take-le n s (omega arith) in
+    record {
+      is = rw z (over_back d at n e l (omega arith) ∙ rw p (over_cut d at n s q));
+      ends = omega arith;
+    }
+
+pub put_filled : (d e : List ℕ) (at n b count : ℕ) → at < length d → n ≡ min count (length d - at)
+    → e ≡ replicate (length (take (at + n - at) (drop at d))) b
+    → Put d at (replicate count b) (take at d ++ (e ++ drop (at + n - at) (drop at d))) (at + n)
+put_filled d e at n b count h q p =
+    let z : length (take (at + n - at) (drop at d)) ≡ n = omega (arith, length-take (at + n - at) (drop at d), length-drop at d) in
+    put_part d (replicate count b) e at n h (omega (arith, length-replicate count b)) (p ∙ rw z (sym (take-replicate n count b (omega arith))))
+
 -- ---- loops that put a text
 
 -- of a text to be put into a row there is this left, to be put into the row as it is
@@ -53,6 +83,17 @@ pub record Rest (d : List ℕ) (at : ℕ) (s e : List ℕ) (m : ℕ) (t : List �
 pub rest_start : (d s : List ℕ) (at : ℕ) → Rest d at s d at s
 rest_start d s at = record { is = refl; ends = refl; size = refl }
 
+-- past the end of the row is as far as its end
+pub rest_within : (d s : List ℕ) (at m : ℕ) → m ≡ min at (length d) → Rest d at s d m s
+rest_within d s at m e =
+    by_test (at ≤? length d)
+    (λ h. let l = leb-true at (length d) h in let z : m ≡ at = omega arith in rw z (rest_start d s at))
+    (λ h. let l = leb-false at (length d) h in record {
+      is = over_out d m s (omega arith) ∙ sym (over_out d at s (omega arith));
+      ends = omega arith;
+      size = refl;
+    })
+
 -- the next part of it
 pub rest_step : {d s e f t u : List ℕ} {at m k : ℕ} → Rest d at s e m (t ++ u) → Put e m t f k → Rest d at s f k u
 rest_step {e = e} {t = t} {u = u} {m = m} r p = record {
@@ -62,8 +103,8 @@ rest_step {e = e} {t = t} {u = u} {m = m} r p = record {
 }
 
 -- the next cell of it
-pub rest_cell : {d s e t u : List ℕ} {at m b : ℕ} → Rest d at s e m t → m < length e → t ≡ b ∷ u → Rest d at s (set e m b) (m + 1) u
-rest_cell {e = e} {u = u} {m = m} {b = b} r h q = rest_step {t = b ∷ []} {u = u} (rw q at r) (put_in e m b h)
+pub rest_cell : {d s e f t u : List ℕ} {at m k b : ℕ} → Rest d at s e m t → t ≡ b ∷ u → Put e m (b ∷ []) f k → Rest d at s f k u
+rest_cell {u = u} {b = b} r q p = rest_step {t = b ∷ []} {u = u} (rw q at r) p
 
 -- nothing of it is left, or nothing of the row
 pub rest_end : {d s e t : List ℕ} {at m r : ℕ} → Rest d at s e m t → (m < length e → length t ≡ 0) → r ≡ min (length e) m → Put d at s e r
@@ -78,16 +119,9 @@ rest_end {e = e} {t = t} {m = m} r f q =
     over_none [] z = over_nil e m
     over_none (x ∷ t) z = absurd (omega arith)
 
--- the next byte of a text
-pub text_cell : (t : List ℕ) (i b : ℕ) → i < length t → b ≡ get_or t i 0 → drop i t ≡ b ∷ drop (i + 1) t
-text_cell t i b h e = let v : i + 1 ≡ suc i = omega arith in rw (v, drop-cons t i 0 h, e)
-
--- the same byte once more
-pub repeat_cell : (n k b : ℕ) → n ≡ suc k → replicate n b ≡ b ∷ replicate k b
-repeat_cell n k b e = rw e
-
-pub repeat_left : (at i count : ℕ) → at ≤ i → i < at + count → count - (i - at) ≡ suc (count - (i + 1 - at))
-repeat_left at i count l h = omega arith
+-- nothing of it is left
+pub rest_done : {d s e t : List ℕ} {at m : ℕ} → Rest d at s e m t → length t ≡ 0 → m ≤ length e → Put d at s e m
+rest_done r z h = rest_end r (λ l. z) (omega arith)
 
 -- ---- whole rows
 

@@ -7,12 +7,6 @@ ghost use Rattle.texts.specs.Texts.{blank};
 
 pub const BLANK: u8 = 0x20;
 
-pub fn smaller(a: usize, b: usize) -> usize
-    ensures { result ≡ min a b }
-{
-    if a < b { a } else { b }
-}
-
 // One cell; like the others it answers where what comes after it is to be put.
 pub fn put(row: &mut [u8], at: usize, byte: u8) -> usize
     ensures { Put row.old at (byte ∷ []) row.new result }
@@ -30,13 +24,10 @@ pub fn put_all(row: &mut [u8], at: usize, text: &[u8]) -> usize
     if row.len() <= at {
         return row.len();
     }
-    let count = smaller(text.len(), row.len() - at);
-    let mut i = 0;
-    while i < count {
-        row[at + i] = text[i];
-        i = i + 1;
-    }
-    at + count
+    let count = text.len().min(row.len() - at);
+    let end = at + count;
+    row[at..end].copy_from_slice(&text[..count]);
+    end
 }
 
 pub fn repeat(row: &mut [u8], at: usize, byte: u8, count: usize) -> usize
@@ -45,12 +36,8 @@ pub fn repeat(row: &mut [u8], at: usize, byte: u8, count: usize) -> usize
     if row.len() <= at {
         return row.len();
     }
-    let end = at + smaller(count, row.len() - at);
-    let mut i = at;
-    while i < end {
-        row[i] = byte;
-        i = i + 1;
-    }
+    let end = at + count.min(row.len() - at);
+    row[at..end].fill(byte);
     end
 }
 
@@ -59,9 +46,6 @@ pub fn pad(row: &mut [u8], at: usize)
     ensures { row.new ≡ over row.old at
         (replicate (length row.old - at) blank) }
 {
-    let mut i = at;
-    while i < row.len() {
-        row[i] = BLANK;
-        i = i + 1;
-    }
+    let count = row.len().saturating_sub(at);
+    repeat(row, at, BLANK, count);
 }

@@ -8,7 +8,7 @@ ghost use Rattle.texts.specs.Texts.{count_text, aligned_right, padded_right, tim
 ghost use Rattle.texts.specs.Texts.{date_text, trigger_text, cells_text, width_of, field_text};
 ghost use Rattle.cmf.specs.Readers.{text_bytes, item_place};
 
-use crate::row::{BLANK, put, put_all, repeat, smaller};
+use crate::row::{BLANK, put, put_all, repeat};
 use cmf::text::item_bytes;
 use field::kind::Kind;
 use field::numeral::Numeral;
@@ -24,28 +24,18 @@ fn digit_char(d: u32) -> u8
     ensures { result ≡ digit_char d }
 {
     if d < 10 {
-        return b'0' + d as u8;
+        b'0' + d as u8
+    } else if d < 16 {
+        b'A' + (d - 10) as u8
+    } else {
+        b' '
     }
-    if d < 16 {
-        return b'A' + (d - 10) as u8;
-    }
-    b' '
 }
 
 fn sign_char(c: u32) -> u8
     ensures { result ≡ sign_char c }
 {
     if c == 0 { b'-' } else { b'+' }
-}
-
-// One number less another, or 0.
-pub fn less(a: usize, b: usize) -> usize
-    ensures { result ≡ a - b }
-{
-    if a < b {
-        return 0;
-    }
-    a - b
 }
 
 // The digits of a year.
@@ -60,17 +50,11 @@ pub fn width_of(kind: Kind) -> usize
     ensures { result ≡ width_of kind }
 {
     match kind {
-        Kind::Integer(_) => profile_of(kind).cells as usize,
+        Kind::Integer(_) | Kind::Switch(_) => profile_of(kind).cells as usize,
         Kind::Counter(s) => s.width as usize,
-        Kind::Time(long) => {
-            if long {
-                return 8;
-            }
-            5
-        }
+        Kind::Time(long) => if long { 8 } else { 5 },
         Kind::Date(long) => year_cells(long) as usize + 6,
-        Kind::Switch(_) => profile_of(kind).cells as usize,
-        Kind::Option { items: _, longest } => longest as usize,
+        Kind::Option { longest, .. } => longest as usize,
         Kind::Trigger => 3,
     }
 }
@@ -79,7 +63,7 @@ pub fn width_of(kind: Kind) -> usize
 fn cell_at(cells: &[u32], i: usize) -> u32
     ensures { result ≡ get_or cells.now i 0 }
 {
-    if i < cells.len() { cells[i] } else { 0 }
+    cells.get(i).copied().unwrap_or(0)
 }
 
 // The digits in count cells from one on.
@@ -87,49 +71,36 @@ fn put_digits(row: &mut [u8], at: usize, cells: &[u32], from: u8, count: u8) -> 
     ensures { Put row.old at (digit_cells cells.now from count)
         row.new result }
 {
-    let mut n = at;
-    let mut i = from as usize;
-    let mut left = count;
-    while 0 < left {
-        if row.len() <= n {
-            return row.len();
-        }
-        row[n] = digit_char(cell_at(cells, i));
-        n = n + 1;
-        i = i + 1;
-        left = left - 1;
+    let first = from as usize;
+    let mut end = at.min(row.len());
+    for i in first..first + count as usize {
+        end = put(row, end, digit_char(cell_at(cells, i)));
     }
-    smaller(row.len(), n)
+    end
 }
 
 fn put_numeral(row: &mut [u8], at: usize, n: Numeral, cells: &[u32]) -> usize
     ensures { Put row.old at (numeral_text n cells.now) row.new result }
 {
     if n.signs == 0 {
-        return put_digits(&mut *row, at, cells, 0, n.digits);
+        return put_digits(row, at, cells, 0, n.digits);
     }
-    let first = put(&mut *row, at, sign_char(cell_at(cells, 0)));
-    put_digits(&mut *row, first, cells, 1, n.digits)
+    let first = put(row, at, sign_char(cell_at(cells, 0)));
+    put_digits(row, first, cells, 1, n.digits)
 }
 
 // The count lowest digits of a number.
 fn put_decimal(row: &mut [u8], at: usize, count: u8, x: u32) -> usize
     ensures { Put row.old at (decimal count x) row.new result }
 {
-    let mut n = at;
-    let mut left = count;
+    let mut end = at.min(row.len());
     let mut rest = lowest_digits(x, count);
-    while 0 < left {
-        if row.len() <= n {
-            return row.len();
-        }
-        let d = first_digit(rest, left);
-        row[n] = b'0' + d.digit as u8;
+    for i in 0..count {
+        let d = first_digit(rest, count - i);
+        end = put(row, end, b'0' + d.digit as u8);
         rest = d.rest;
-        n = n + 1;
-        left = left - 1;
     }
-    smaller(row.len(), n)
+    end
 }
 
 // A counter's number, given with 32,768 added, right aligned.
@@ -140,25 +111,25 @@ fn put_counter(row: &mut [u8], at: usize, width: u8, x: u32) -> usize
     if x < 32768 {
         let size = 32768 - x;
         let n = digit_count(size as u64);
-        let sign = repeat(&mut *row, at, BLANK, less(w, 1 + n as usize));
-        let first = put(&mut *row, sign, b'-');
-        return put_decimal(&mut *row, first, n, size);
+        let sign = repeat(row, at, BLANK, w.saturating_sub(1 + n as usize));
+        let first = put(row, sign, b'-');
+        return put_decimal(row, first, n, size);
     }
     let size = x - 32768;
     let n = digit_count(size as u64);
-    let first = repeat(&mut *row, at, BLANK, less(w, n as usize));
-    put_decimal(&mut *row, first, n, size)
+    let first = repeat(row, at, BLANK, w.saturating_sub(n as usize));
+    put_decimal(row, first, n, size)
 }
 
 fn put_time(row: &mut [u8], at: usize, long: bool, cells: &[u32]) -> usize
     ensures { Put row.old at (time_text long cells.now) row.new result }
 {
-    let hours = put_decimal(&mut *row, at, 2, cell_at(cells, 0));
-    let colon = put(&mut *row, hours, b':');
-    let minutes = put_decimal(&mut *row, colon, 2, cell_at(cells, 1));
+    let hours = put_decimal(row, at, 2, cell_at(cells, 0));
+    let colon = put(row, hours, b':');
+    let minutes = put_decimal(row, colon, 2, cell_at(cells, 1));
     if long {
-        let colon = put(&mut *row, minutes, b':');
-        return put_decimal(&mut *row, colon, 2, cell_at(cells, 2));
+        let colon = put(row, minutes, b':');
+        return put_decimal(row, colon, 2, cell_at(cells, 2));
     }
     minutes
 }
@@ -166,11 +137,11 @@ fn put_time(row: &mut [u8], at: usize, long: bool, cells: &[u32]) -> usize
 fn put_date(row: &mut [u8], at: usize, long: bool, cells: &[u32]) -> usize
     ensures { Put row.old at (date_text long cells.now) row.new result }
 {
-    let year = put_decimal(&mut *row, at, year_cells(long), cell_at(cells, 0));
-    let dash = put(&mut *row, year, b'-');
-    let month = put_decimal(&mut *row, dash, 2, cell_at(cells, 1));
-    let dash = put(&mut *row, month, b'-');
-    put_decimal(&mut *row, dash, 2, cell_at(cells, 2))
+    let year = put_decimal(row, at, year_cells(long), cell_at(cells, 0));
+    let dash = put(row, year, b'-');
+    let month = put_decimal(row, dash, 2, cell_at(cells, 1));
+    let dash = put(row, month, b'-');
+    put_decimal(row, dash, 2, cell_at(cells, 2))
 }
 
 // An item of the option at a place, padded right.
@@ -181,16 +152,16 @@ fn put_item(row: &mut [u8], at: usize, image: &[u8], place: usize, item: u32, lo
 {
     let text = item_bytes(image, place, item as usize);
     let n = text.len();
-    let end = put_all(&mut *row, at, text);
-    repeat(&mut *row, end, BLANK, less(longest as usize, n))
+    let end = put_all(row, at, text);
+    repeat(row, end, BLANK, (longest as usize).saturating_sub(n))
 }
 
 fn put_trigger(row: &mut [u8], at: usize) -> usize
     ensures { Put row.old at trigger_text row.new result }
 {
-    let star = put(&mut *row, at, b'[');
-    let end = put(&mut *row, star, b'*');
-    put(&mut *row, end, b']')
+    let star = put(row, at, b'[');
+    let end = put(row, star, b'*');
+    put(row, end, b']')
 }
 
 // What the cells of a visit show at the component at a place.
@@ -206,20 +177,13 @@ pub fn put_cells(
         (cells_text image.now place kind cells.now) row.new result }
 {
     match kind {
-        Kind::Integer(f) => put_numeral(&mut *row, at, f.numeral(), cells),
-        Kind::Counter(s) => put_counter(&mut *row, at, s.width, cell_at(cells, 0)),
-        Kind::Time(long) => put_time(&mut *row, at, long, cells),
-        Kind::Date(long) => put_date(&mut *row, at, long, cells),
-        Kind::Switch(n) => put_numeral(&mut *row, at, Numeral::of_bits(n), cells),
-        Kind::Option { items: _, longest } => put_item(
-            &mut *row,
-            at,
-            image,
-            place,
-            cell_at(cells, 0),
-            longest,
-        ),
-        Kind::Trigger => put_trigger(&mut *row, at),
+        Kind::Integer(f) => put_numeral(row, at, f.numeral(), cells),
+        Kind::Counter(s) => put_counter(row, at, s.width, cell_at(cells, 0)),
+        Kind::Time(long) => put_time(row, at, long, cells),
+        Kind::Date(long) => put_date(row, at, long, cells),
+        Kind::Switch(n) => put_numeral(row, at, Numeral::of_bits(n), cells),
+        Kind::Option { longest, .. } => put_item(row, at, image, place, cell_at(cells, 0), longest),
+        Kind::Trigger => put_trigger(row, at),
     }
 }
 
@@ -229,7 +193,7 @@ fn put_number(row: &mut [u8], at: usize, image: &[u8], place: usize, kind: Kind,
         (cells_text image.now place kind (work_of (cells_of kind x)).cells) row.new result }
 {
     let shown = Work::showing(kind, x);
-    put_cells(&mut *row, at, image, place, kind, &shown.cells)
+    put_cells(row, at, image, place, kind, &shown.cells)
 }
 
 // What a field shows outside a visit, by the cells of its number.
@@ -246,11 +210,10 @@ fn put_value(
 {
     let kind = field.kind;
     let x = load(sheet, field.sheet, profile_of(kind).bytes).number();
-    let fits = in_range(kind, x);
-    if fits {
-        return put_number(&mut *row, at, image, place, kind, x);
+    if in_range(kind, x) {
+        return put_number(row, at, image, place, kind, x);
     }
-    repeat(&mut *row, at, b'#', width_of(kind))
+    repeat(row, at, b'#', width_of(kind))
 }
 
 // What an option shows outside a visit; its byte in the sheet is x.
@@ -268,10 +231,10 @@ fn put_option(
         (text_bytes image.now (item_place image.now place x)) else replicate longest hash)
         row.new result }
 {
-    if x as usize <= less(items as usize, 1) {
-        return put_item(&mut *row, at, image, place, x as u32, longest);
+    if x as usize <= (items as usize).saturating_sub(1) {
+        return put_item(row, at, image, place, x as u32, longest);
     }
-    repeat(&mut *row, at, b'#', longest as usize)
+    repeat(row, at, b'#', longest as usize)
 }
 
 // What a field shows outside a visit; for an option, which is one byte, and a trigger no cells are made.
@@ -288,13 +251,8 @@ pub fn put_field(
 {
     let kind = field.kind;
     match kind {
-        Kind::Integer(_) => put_value(&mut *row, at, image, sheet, place, field),
-        Kind::Counter(_) => put_value(&mut *row, at, image, sheet, place, field),
-        Kind::Time(_) => put_value(&mut *row, at, image, sheet, place, field),
-        Kind::Date(_) => put_value(&mut *row, at, image, sheet, place, field),
-        Kind::Switch(_) => put_value(&mut *row, at, image, sheet, place, field),
         Kind::Option { items, longest } => put_option(
-            &mut *row,
+            row,
             at,
             image,
             place,
@@ -302,6 +260,7 @@ pub fn put_field(
             items,
             longest,
         ),
-        Kind::Trigger => put_trigger(&mut *row, at),
+        Kind::Trigger => put_trigger(row, at),
+        _ => put_value(row, at, image, sheet, place, field),
     }
 }

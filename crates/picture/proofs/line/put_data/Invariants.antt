@@ -1,12 +1,11 @@
 -- The loop: what the components from here on show is left; while there is no mark, it is that of the components from here on.
+use Prim.Native.Nat.{◌+◌, ◌-◌}
 use mathlib.Core.Path.{◌≡◌}
+use lib.ListN.{length}
 use Rattle.cmf.specs.Places.{components_from, first_editable}
 use Rattle.picture.specs.Rows.{data_text, mark_of}
 use Rattle.texts.proofs.Writing.{Rest}
 use Rattle.picture.proofs.line.put_data.Given as goal
 
-abbrev pub invariant-loop-left : goal.invariant-loop-left
-invariant-loop-left l = Rest l.initial.row l.start (data_text l.image l.sheet l.session (components_from l.image l.initial.left l.initial.p)) l.row l.at (data_text l.image l.sheet l.session (components_from l.image l.left l.p)) × (l.mark ≡ 0 → first_editable l.image (components_from l.image l.left l.p) ≡ first_editable l.image (components_from l.image l.initial.left l.initial.p)) × ((l.mark ≡ 0 → ⊥) → l.mark ≡ mark_of (first_editable l.image (components_from l.image l.initial.left l.initial.p)))
-
-abbrev pub decreases-loop-left : goal.decreases-loop-left
-decreases-loop-left l = l.left
+abbrev pub invariant-loop : goal.invariant-loop
+invariant-loop l = Rest l.initial.row l.start (data_text l.image l.sheet l.session (components_from l.image (length l.image + 1) l.first)) l.row l.at (data_text l.image l.sheet l.session (components_from l.image (length l.image + 1 - l.counter) l.p)) × (l.mark ≡ 0 → first_editable l.image (components_from l.image (length l.image + 1 - l.counter) l.p) ≡ first_editable l.image (components_from l.image (length l.image + 1) l.first)) × ((l.mark ≡ 0 → ⊥) → l.mark ≡ mark_of (first_editable l.image (components_from l.image (length l.image + 1) l.first)))

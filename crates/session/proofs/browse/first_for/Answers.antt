@@ -14,10 +14,6 @@ pub returns-then-at-rows : goal.returns-then-at-rows
 unfolding first_for
 returns-then-at-rows c = sym (if_ge _ _ _ _ c.if-cursor-first.false ∙ if_lt c.args.cursor (c.args.first + c.args.rows) _ _ (omega arith))
 
-pub returns-then-at-rows-2 : goal.returns-then-at-rows-2
-unfolding first_for
-returns-then-at-rows-2 c = sym (if_ge _ _ _ _ c.if-cursor-first.false ∙ if_lt c.args.cursor (c.args.first + c.args.rows) _ _ (omega arith))
-
 pub returns : goal.returns
 unfolding first_for
 returns c = sym (if_ge _ _ _ _ c.if-cursor-first.false ∙ if_ge c.args.cursor (c.args.first + c.args.rows) _ _ (omega arith))

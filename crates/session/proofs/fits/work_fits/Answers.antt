@@ -8,10 +8,10 @@ pub returns-then-p : goal.returns-then-p
 unfolding work_fits ◌and◌ when◌then◌else◌
 returns-then-p c = simp (← c.profile_of-p.ensures, lt-ltb _ _ c.if-work-p.true, c.if-p.true)
 
-pub returns-then-work-p : goal.returns-then-work-p
+pub returns-else-p : goal.returns-else-p
 unfolding work_fits ◌and◌ when◌then◌else◌
-returns-then-work-p c = simp (c.legal.ensures, ← c.profile_of-p.ensures, lt-ltb _ _ c.if-work-p.true, c.if-p.false)
+returns-else-p c = simp (c.legal.ensures, ← c.profile_of-p.ensures, lt-ltb _ _ c.if-work-p.true, c.if-p.false)
 
-pub returns : goal.returns
+pub returns-else-work-p : goal.returns-else-work-p
 unfolding work_fits ◌and◌
-returns c = simp (← c.profile_of-p.ensures, le-ltb _ _ c.if-work-p.false)
+returns-else-work-p c = simp (← c.profile_of-p.ensures, le-ltb _ _ c.if-work-p.false)

@@ -7,7 +7,4 @@ use Rattle.session_bytes.specs.Numbers.{numbers_from}
 use Rattle.session_bytes.proofs.read.cells.Given as goal
 
 abbrev pub invariant-loop-i : goal.invariant-loop-i
-invariant-loop-i l = (over l.cells l.i (numbers_from 4 (32 - l.i) (94 + 4 * l.i) l.bytes) ≡ numbers_from 4 32 94 l.bytes) × (length l.cells ≡ 32)
-
-abbrev pub decreases-loop-i : goal.decreases-loop-i
-decreases-loop-i l = 32 - l.i
+invariant-loop-i l = (over l.cell-items l.i (numbers_from 4 (32 - l.i) (94 + 4 * l.i) l.bytes) ≡ numbers_from 4 32 94 l.bytes) × (length l.cell-items ≡ 32)

@@ -4,4 +4,4 @@ use Rattle.session_bytes.proofs.read.level_at.Goals as goal
 
 pub returns : goal.returns
 unfolding level_from
-returns c = rw (c.place_at.ensures, c.byte_at.ensures, c.byte_at-2.ensures)
+returns c = rw (c.place_at.ensures)

@@ -4,4 +4,4 @@ use Rattle.session_bytes.proofs.read.session_in.Goals as goal
 
 pub returns : goal.returns
 unfolding session_in
-returns c = simp (c.levels.ensures, c.level_at.ensures, c.mode.ensures, c.cells.ensures, c.typed.ensures, c.byte_at.ensures, c.byte_at-2.ensures, c.byte_at-3.ensures, c.byte_at-4.ensures, c.byte_at-5.ensures)
+returns c = simp (c.levels.ensures, c.level_at.ensures, c.mode.ensures, c.cells.ensures, c.typed.ensures)

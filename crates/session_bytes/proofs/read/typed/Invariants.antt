@@ -7,7 +7,4 @@ use Rattle.session_bytes.specs.Numbers.{numbers_from}
 use Rattle.session_bytes.proofs.read.typed.Given as goal
 
 abbrev pub invariant-loop-i : goal.invariant-loop-i
-invariant-loop-i l = (over l.digits l.i (numbers_from 1 (8 - l.i) (222 + l.i) l.bytes) ≡ numbers_from 1 8 222 l.bytes) × (length l.digits ≡ 8)
-
-abbrev pub decreases-loop-i : goal.decreases-loop-i
-decreases-loop-i l = 8 - l.i
+invariant-loop-i l = (over l.digit-items l.i (numbers_from 1 (8 - l.i) (222 + l.i) l.bytes) ≡ numbers_from 1 8 222 l.bytes) × (length l.digit-items ≡ 8)

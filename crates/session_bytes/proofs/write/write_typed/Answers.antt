@@ -8,10 +8,10 @@ use Rattle.session_bytes.proofs.Numbers.{one_low, numbers_turn, numbers_done}
 use Rattle.session_bytes.proofs.write.write_typed.Goals as goal
 
 pub loop-i-init : goal.loop-i-init
-loop-i-init c = (refl, c.well_formed.1.0.1.0.1, omega arith)
+loop-i-init c = refl
 
 pub loop-i-preserved : goal.loop-i-preserved
-loop-i-preserved c = let x = get_or c.args.digits c.loop-i.i 0 in let e = one_low x (byte_fits c.args.digits _ c.well_formed.1.0.1.1 c.loop-i.i) in (numbers_turn 1 c.args.digits c.loop-i.bytes c.loop-i.i (222 + c.loop-i.i) _ (222 + (c.loop-i.i + 1)) (omega arith) (omega arith) (rw (← e) c.write_byte.ensures) ∙ c.loop-i.invariant.0, c.loop-i.invariant.1, omega arith)
+loop-i-preserved c = let x = get_or c.args.digits c.loop-i.i 0 in let e = one_low x (byte_fits c.args.digits _ c.well_formed.1.0.1.1 c.loop-i.i) in numbers_turn 1 c.args.digits c.loop-i.bytes c.loop-i.i (222 + c.loop-i.i) _ (222 + (c.loop-i.i + 1)) (omega arith) (omega arith) (rw (← e) c.write_byte.ensures) ∙ c.loop-i.invariant
 
 pub returns : goal.returns
-returns c = sym (numbers_done 1 c.args.digits c.loop-i.bytes c.loop-i.i (222 + c.loop-i.i) (omega arith)) ∙ c.loop-i.invariant.0
+returns c = sym (numbers_done 1 c.args.digits c.loop-i.bytes c.loop-i.i (222 + c.loop-i.i) (omega arith)) ∙ c.loop-i.invariant

@@ -12,6 +12,6 @@ pub returns-then-d-lt16 : goal.returns-then-d-lt16
 unfolding digit_char
 returns-then-d-lt16 c = sym (if_ge _ 10 _ _ c.if-d-lt10.false ∙ if_lt _ 16 _ _ c.if-d-lt16.true)
 
-pub returns : goal.returns
+pub returns-else-d-lt16 : goal.returns-else-d-lt16
 unfolding digit_char
-returns c = sym (if_ge _ 10 _ _ c.if-d-lt10.false ∙ if_ge _ 16 _ _ c.if-d-lt16.false)
+returns-else-d-lt16 c = sym (if_ge _ 10 _ _ c.if-d-lt10.false ∙ if_ge _ 16 _ _ c.if-d-lt16.false)

@@ -1,4 +1,5 @@
 -- Each kind has its case.
+use Rattle.std.proofs.Common.{inl, inr}
 use Rattle.laws.specs.Choice.{when◌then◌else◌}
 use Rattle.field.specs.Profiles.{profile_of}
 use Rattle.texts.specs.Texts.{width_of}
@@ -10,7 +11,7 @@ returns-then-long c = simp (c.in-Time.is, c.if-long.true)
 
 pub returns-in-Integer : goal.returns-in-Integer
 unfolding width_of profile_of
-returns-in-Integer c = simp (c.profile_of.ensures, c.in-Integer.is)
+returns-in-Integer c = elim c.in-Integer.is [ inl p ↦ simp (c.profile_of.ensures, p.1) | inr p ↦ simp (c.profile_of.ensures, p.1) ]
 
 pub returns-in-Counter : goal.returns-in-Counter
 unfolding width_of
@@ -23,10 +24,6 @@ returns-else-long c = simp (c.in-Time.is, c.if-long.false)
 pub returns-in-Date : goal.returns-in-Date
 unfolding width_of
 returns-in-Date c = simp (c.in-Date.is, c.year_cells.ensures)
-
-pub returns-in-Switch : goal.returns-in-Switch
-unfolding width_of profile_of
-returns-in-Switch c = simp (c.profile_of-in-Switch.ensures, c.in-Switch.is)
 
 pub returns-in-Option : goal.returns-in-Option
 unfolding width_of

@@ -2,4 +2,4 @@
 use Rattle.session.proofs.session.Session.waited.Goals as goal
 
 pub returns : goal.returns
-returns c = rw c.later-idle.ensures
+returns c = rw c.later.ensures
