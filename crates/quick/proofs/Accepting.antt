@@ -9,6 +9,7 @@ use Rattle.laws.specs.Bytes.{word_at}
 use Rattle.laws.proofs.Cases.{if_true, if_false}
 use Rattle.field.specs.Profiles.{profile_of}
 use Rattle.field.specs.declared.record.Field.{Field}
+use Rattle.cmf.specs.Refusals.{refusal_number}
 use Rattle.cmf.specs.Limits.{most_fields, longest_sheet}
 use Rattle.cmf.specs.Readers.{even_from, component_at}
 use Rattle.cmf.specs.Places.{components_from}
@@ -90,7 +91,7 @@ module _ (im : List ℕ) where
     abbrev p : ℕ
     p = even_from v.at
 
-    reads_none : (component_at im p).refusal ≡ 0
+    reads_none : refusal_number (component_at im p).refusal ≡ 0
     reads_none = (A.component_is q.component).refusal
 
     last_is : (b : Bool) → (component_at im p).last ≡ b → (last_bit im p ≡ 0 → b ≡ false) × (last_bit im p ≡ 1 → b ≡ true)

@@ -9,6 +9,7 @@ use Rattle.std.proofs.Common.{Option, Some, None}
 use Rattle.std.specs.Option.{is_some, IfSome}
 use Rattle.laws.specs.Choice.{when◌then◌else◌}
 use Rattle.laws.proofs.Cases.{if_true, if_false, if_eq}
+use Rattle.cmf.specs.Refusals.{refusal_number}
 use Rattle.cmf.specs.Limits.{most_fields, most_lines_of_table, longest_sheet, deepest_table, prolog_bytes}
 use Rattle.cmf.specs.Readers.{even_from, title_at, head_at}
 use Rattle.cmf.specs.Places.{lines_from, lines_of, components_from, components_of}
@@ -17,7 +18,7 @@ use Rattle.cmf.specs.declared.title.Title as read-title
 use Rattle.cmf.proofs.Agreement.{Agree, HeadReads}
 use Rattle.cmf.proofs.Agreeing.{agree}
 use Rattle.quick.specs.declared.tally.Tally.{Tally}
-use Rattle.acceptance.specs.Check.{State, on_components, on_head, on_title, on_submenu, on_body, on_line, on_lines, on_table, start, walked, prolog_code, checked, refusal_of}
+use Rattle.acceptance.specs.Check.{State, on_components, on_head, on_title, on_submenu, on_body, on_line, on_lines, on_table, start, walked, prolog_refusal, checked, refusal_of}
 use Rattle.quick.specs.Accept.{Placed, Covers, AsFar, Reaches, past, headed, AmongLines}
 use Rattle.acceptance.proofs.Steps.{title_goes, head_goes}
 use Rattle.acceptance.proofs.Line.{last_marked, more_marked, submenu_marked, plain_marked}
@@ -40,7 +41,7 @@ module _ (im : List ℕ) (extent : ℕ) where
   -- ---- a line
 
   module _ {n before p end : ℕ} {w b : Tally} {old mid : List ℕ} (few : n < most_lines_of_table) (q : Placed im n before p w end) (c : Reaches extent (parts (even_from end)) (headed w end) b old mid) where
-    pub reads : (head_at im p).refusal ≡ 0
+    pub reads : refusal_number (head_at im p).refusal ≡ 0
     reads = (A.head_is q.head).refusal
 
     known : HeadReads im p
@@ -100,7 +101,7 @@ module _ (im : List ℕ) (extent : ℕ) where
     pub going_start : (u : Tally) (m : List ℕ) → AmongLines im extent below first u m 0 0 first u m
     going_start u m = record { go = λ s h t. record { here = s; far = t; rest = refl } }
 
-    module _ {u : Tally} {old : List ℕ} {n before p : ℕ} {v w : Tally} {mid new : List ℕ} (few : n < most_lines_of_table) (z : (head_at im p).refusal ≡ 0) (c : Reaches extent (line below n before p) v w mid new) (g : AmongLines im extent below first u old n before p v mid) where
+    module _ {u : Tally} {old : List ℕ} {n before p : ℕ} {v w : Tally} {mid new : List ℕ} (few : n < most_lines_of_table) (z : refusal_number (head_at im p).refusal ≡ 0) (c : Reaches extent (line below n before p) v w mid new) (g : AmongLines im extent below first u old n before p v mid) where
       one_more : most_lines_of_table + 1 - n ≡ suc (most_lines_of_table - n)
       one_more = omega arith
 
@@ -134,13 +135,13 @@ module _ (im : List ℕ) (extent : ℕ) where
   -- ---- a table
 
   pub table_reaches :
-      (t : ℕ) {left below : ℕ} {title : read-title.Title} {v w r : Tally} {old new : List ℕ} → left ≡ suc below → title ≡ title_at im t → title.refusal ≡ 0 →
+      (t : ℕ) {left below : ℕ} {title : read-title.Title} {v w r : Tally} {old new : List ℕ} → left ≡ suc below → title ≡ title_at im t → refusal_number title.refusal ≡ 0 →
       v ≡ past w title.end → Reaches extent (lines below title.line.0 0 0 (lines_from im (most_lines_of_table + 1) title.line.0)) v r old new →
       Reaches extent (table left t) w r old new
   unfolding on_table lines_of
   table_reaches t {left} {below} {title} {w = w} e f z b c = record {
     reach = λ s h k.
-        let q : (title_at im t).refusal ≡ 0 = rw f at z in
+        let q : refusal_number (title_at im t).refusal ≡ 0 = rw f at z in
         let o =
         far_at (on_title im extent most_fields t s) (title_at im t).end w.lines s.fields
         (ap (on_title im extent most_fields t) k.is ∙ title_goes im A extent most_fields t w.at w.lines s.fields q) (ap (λ (x : read-title.Title). x.end) (sym f)) refl
@@ -152,10 +153,10 @@ module _ (im : List ℕ) (extent : ℕ) where
   -- ---- the whole image
 
   pub nothing_refused :
-      (m new : List ℕ) (r : Option Tally) → is_some r ≡ true → extent ≤ longest_sheet → prolog_code im ≡ 0 →
+      (m new : List ℕ) (r : Option Tally) → is_some r ≡ true → extent ≤ longest_sheet → refusal_number (prolog_refusal im) ≡ 0 →
       IfSome r (λ t. Reaches extent (table deepest_table prolog_bytes) (record { at = 0; lines = 0; fields = 0 }) t m new) → refusal_of im extent ≡ 0
   unfolding refusal_of checked walked
   nothing_refused m new None e h p c = absurd (false≢true e)
   nothing_refused m new (Some r) e h p c =
       let t = c.reach start h (record { is = refl; count = refl; covers = Covers.none }) in
-      ap (λ (s : State). s.progress.refusal) (if_eq (prolog_code im) 0 _ _ p ∙ t.is)
+      ap (λ (s : State). refusal_number s.progress.refusal) (if_eq (refusal_number (prolog_refusal im)) 0 _ _ p ∙ t.is)

@@ -7,6 +7,7 @@ use native.Mathlib.Omega.{arith}
 use lib.ListN.{length}
 use borrow.Author.Tests.{eqb-false}
 use Rattle.laws.specs.Choice.{◌=?◌}
+use Rattle.cmf.specs.Refusals.{refusal_number}
 use Rattle.cmf.specs.Readers.{even_from, head_at}
 use Rattle.cmf.specs.Places.{lines_from}
 use Rattle.cmf.specs.Layouts.{Aligned, last_bit}
@@ -132,7 +133,7 @@ module _ (im : List ℕ) (extent : ℕ) where
   module _
       {below first : ℕ} {u w : Tally} {old mid new : List ℕ} {s : Position} (d : s.done ≡ true) (o : Along im extent below first u old s mid)
       (l : Leaves im extent below s.line.0 s.tally w mid new) where
-    read : (head_at im s.line.0).refusal ≡ 0
+    read : refusal_number (head_at im s.line.0).refusal ≡ 0
     read = tables.reads im extent o.few o.head (o.through d)
 
     pub lines_more : is_last im s.line.0 ≡ 0 → AmongLines im extent below first u old (s.n + 1) s.line.0 (next_line im s.line.0) w new

@@ -6,6 +6,7 @@ use Rattle.std.specs.Prelude.{length, get_or}
 use Rattle.laws.specs.Bytes.{word_at}
 use Rattle.field.specs.Sheet.{size_of}
 use Rattle.field.specs.declared.record.Field.{Field}
+use Rattle.std.specs.Prelude.{None}
 use Rattle.cmf.specs.Limits.{most_fields, most_lines, most_lines_of_table, longest_sheet}
 use Rattle.cmf.specs.Readers.{even_from}
 use Rattle.cmf.specs.Places.{lines_from, components_from}
@@ -72,7 +73,7 @@ pub data Covers (marks : List ℕ) : List Entry → Type 0 where
 
 -- a state of the check that has refused nothing and has come as far
 pub record AsFar (w : Tally) (marks : List ℕ) (s : State) : Type 0 where
-  pub is : s ≡ state (record { refusal = 0; at = w.at; lines = w.lines; fields = length s.fields })
+  pub is : s ≡ state (record { refusal = None; at = w.at; lines = w.lines; fields = length s.fields })
       s.fields
   pub count : length s.fields ≡ w.fields
   pub covers : Covers marks s.fields

@@ -12,7 +12,7 @@ use crate::heads::{accept_head, next_of, submenu_of};
 use crate::position::Position;
 use crate::run::run;
 use crate::tally::Tally;
-use acceptance::shared::prolog_code;
+use acceptance::shared::prolog_refusal;
 use cmf::image::Image;
 use cmf::title::read_title;
 
@@ -89,7 +89,7 @@ fn accept_table(
         (on_table image.now extent most_fields left table) w t marks.old marks.new) }
 {
     let title = read_title(image, table);
-    if title.refusal != 0 || left == 0 {
+    if title.refusal.is_some() || left == 0 {
         return None;
     }
     let below = left - 1;
@@ -118,7 +118,7 @@ fn accept_table(
 pub fn is_accepted(image: &[u8], extent: usize) -> bool
     ensures { result ≡ true → refusal_of image.now extent ≡ 0 }
 {
-    if prolog_code(image) != 0 || Image::MAX_SHEET < extent {
+    if prolog_refusal(image).is_some() || Image::MAX_SHEET < extent {
         return false;
     }
     let mut marks = [0u64; WORDS];

@@ -55,16 +55,9 @@ impl Level {
             ≡ found_if (level_fits image.now lines table self)
             (cursor_line image.now self) }
     {
-        if self.table.0 != table {
-            return None;
-        }
         let cursor = self.cursor as usize;
         let first = self.first as usize;
-        let shown = rows_below(lines);
-        if cursor < first {
-            return None;
-        }
-        if first + shown <= cursor {
+        if self.table.0 != table || cursor < first || first + rows_below(lines) <= cursor {
             return None;
         }
         reach(image, table, cursor)
@@ -113,19 +106,13 @@ fn shown_line(
         return None;
     }
     let mut t = Image::PROLOG;
-    let mut i = 0;
-    while i < count {
-        let l = above[i];
-        let line = l.shown(image, lines, t);
-        let Some(p) = line else {
-            return None;
-        };
+    for i in 0..count {
+        let p = above[i].shown(image, lines, t)?;
         let h = read_head(image, p.0);
         if !h.submenu {
             return None;
         }
         t = h.table.0;
-        i = i + 1;
     }
     here.shown(image, lines, t)
 }

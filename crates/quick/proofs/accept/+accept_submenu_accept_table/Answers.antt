@@ -1,5 +1,6 @@
 -- A line is head, components and submenu; the lines that are left, done to a state that has come as far, are the whole. The depth left falls.
 use mathlib.Core.Path.{◌≡◌, refl, ◌∙◌}
+use Rattle.cmf.proofs.Numbers.{unrefused_number}
 use Rattle.quick.proofs.AcceptingTables.{going_start, table_reaches}
 use Rattle.quick.proofs.Positions.{head_fits, along_head, leaves_plain, leaves_deep, lines_more, lines_last}
 use native.Mathlib.Omega.{arith}
@@ -42,7 +43,7 @@ accept_table-bounds-image-line t c = omega (arith, c.in_ok-s.ensures.1.inside)
 pub accept_table-returns-then-image-line-eq1 : goal.accept_table-returns-then-image-line-eq1
 accept_table-returns-then-image-line-eq1 t c =
     let d : c.args.left ≡ suc (c.args.left - 1) = omega (arith, c.if-left-eq0.false) in
-    table_reaches _ _ _ d c.read_title-title.ensures c.if-title-ne0.false c.past-v.ensures
+    table_reaches _ _ _ d c.read_title-title.ensures (unrefused_number _ c.is_some.ensures c.if-is_some.false) c.past-v.ensures
     (lines_last _ _ c.in_ok-s.ensures.0 (c.in_ok-s.ensures.1.carry _ _ _ _ (along_head _ _ c.headed-head.ensures c.loop-n-test.true c.in_ok-end.ensures c.loop-n.invariant.0.0)) c.in_ok-v.ensures c.if-image-line-eq1.true)
 
 pub accept_table-next_of-p-requires : goal.accept_table-next_of-p-requires
