@@ -20,13 +20,13 @@ pub(crate) fn refused_by(refusal: u8) -> u32
     REFUSED + refusal as u32
 }
 
-// Where the edit cursor is, 0 for nowhere.
-pub(crate) fn cursor_number(cursor: EditCursor) -> u32
+// Where the edit cursor is, 0 for none.
+pub(crate) fn cursor_number(cursor: Option<EditCursor>) -> u32
     requires { cursor_number (cursor_at.cursor_place cursor) < 131072 }
     ensures { result ≡ cursor_number (cursor_at.cursor_place cursor) }
 {
     match cursor {
-        EditCursor::Nowhere => 0,
-        EditCursor::At { row, column } => CURSOR + 256 * row as u32 + column as u32,
+        None => 0,
+        Some(at) => CURSOR + 256 * at.row as u32 + at.column as u32,
     }
 }

@@ -128,8 +128,7 @@ pub extern "C" fn handset_draw(
     if refusal != 0 {
         return refused_by(refusal);
     }
-    let cursor = drawn.cursor;
-    cursor_number(cursor)
+    cursor_number(drawn.cursor)
 }
 
 #[unsafe(no_mangle)]

@@ -10,11 +10,11 @@ use picture::cursor::{EditCursor, edit_cursor};
 use picture::picture::put_picture;
 use session::session::Session;
 
-// The refusal number, 0 for none, and the edit cursor: nowhere where it is refused.
+// The refusal number, 0 for none, and the edit cursor: none where it is refused.
 #[derive(Clone, Copy)]
 pub struct Drawn {
     pub refusal: u8,
-    pub cursor: EditCursor,
+    pub cursor: Option<EditCursor>,
 }
 
 // The refusal number, 0 for none, where that of image, sheet and session is known; the picture has so many
@@ -46,7 +46,7 @@ pub fn draw(image: &[u8], sheet: &[u8], session: Session, picture: &mut [u8]) ->
     if refusal != 0 {
         return Drawn {
             refusal,
-            cursor: EditCursor::Nowhere,
+            cursor: None,
         };
     }
     put_picture(image, sheet, session, &mut *picture);

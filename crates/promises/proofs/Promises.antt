@@ -6,6 +6,7 @@ use mathlib.Core.Bool.{Bool, true, false, false≢true}
 use mathlib.Core.List.Memᴰ
 use mathlib.Core.List.{List, [], ◌∷◌, map, Memᴰ}
 use native.Mathlib.Omega.{arith}
+use Rattle.std.specs.Prelude.{Option, None, Some}
 use lib.ListN.{length}
 use borrow.Author.Tests.{eqb-true, eqb-false, lt-ltb, ltb-true}
 use Rattle.laws.specs.Choice.{when◌then◌else◌, ◌and◌, ◌=?◌, ◌<?◌, ◌≤?◌}
@@ -29,7 +30,6 @@ use Rattle.session.specs.declared.answer.Stepped.{Stepped}
 use Rattle.session.proofs.Closed.{closed_never_fits}
 use Rattle.picture.specs.Cursor as cursor
 use Rattle.picture.specs.declared.cursor.EditCursor.{EditCursor}
-use Rattle.picture.specs.declared.cursor.EditCursor.TheVariants.{Nowhere, At}
 use Rattle.handset.specs.Refusals.{◌before◌, ◌unless◌, session_refusal}
 use Rattle.handset.specs.Event.{event_refusal, event_answer}
 use Rattle.handset.specs.Open.{open_refusal, open_answer, open_sheet}
@@ -209,13 +209,19 @@ only_text im extent place item h =
     let r = reached_field place w.fields (rw (← fields_are im extent w) at (and_l _ _ b)) in
     (rw r.place at (field_read im extent w r.field r.known).1, ltb-true item _ (and_r _ _ b))
 
+abbrev cursor_at : ℕ → ℕ → Option EditCursor
+cursor_at r k = Some (record { row = r; column = k })
+
 -- a cursor is found again from its numbers
-cursor_once : (a b : EditCursor) → cursor.cursor_place a ≡ cursor.cursor_place b → a ≡ b
+cursor_once : (a b : Option EditCursor) → cursor.cursor_place a ≡ cursor.cursor_place b → a ≡ b
 unfolding cursor.cursor_place
-cursor_once Nowhere Nowhere h = refl
-cursor_once Nowhere (At r c) h = let z : ◌≡◌ {A = ℕ} 0 1 = cc in absurd (omega arith)
-cursor_once (At r c) Nowhere h = let z : ◌≡◌ {A = ℕ} 0 1 = cc in absurd (omega arith)
-cursor_once (At r c) (At q d) h = cc
+cursor_once None None h = refl
+cursor_once None (Some c) h = let z : ◌≡◌ {A = ℕ} 0 1 = cc in absurd (omega arith)
+cursor_once (Some c) None h = let z : ◌≡◌ {A = ℕ} 0 1 = cc in absurd (omega arith)
+cursor_once (Some c) (Some d) h =
+    let a : c.row ≡ d.row = cc in
+    let b : c.column ≡ d.column = cc in
+    ap (λ (r : ℕ). cursor_at r c.column) a ∙ ap (λ (k : ℕ). cursor_at d.row k) b
 
 -- what a field of the derivation has
 field_promises : (im : List ℕ) (n : ℕ) (w : WellFormed im n) (f : Field) → Memᴰ f w.fields → FieldPromises im n w f

@@ -1,6 +1,6 @@
 -- Demand 1: refusals. That every call ends with an answer, whatever it is given, needs no clause: its
 -- function has a contract and asks for nothing. For the marks see `Promises`.
-use Rattle.std.specs.Prelude.{ℕ, ◌*◌, ◌≡◌, ◌≢◌, ◌↔◌, false, List, [], length}
+use Rattle.std.specs.Prelude.{ℕ, ◌*◌, ◌≡◌, ◌≢◌, ◌↔◌, false, List, [], length, None}
 use Rattle.laws.specs.Choice.{when◌then◌else◌, ◌and◌, ◌=?◌, ◌<?◌, ◌≤?◌}
 use Rattle.cmf.specs.Places.{field_places, is_in}
 use Rattle.acceptance.specs.Check.{refusal_of}
@@ -12,7 +12,6 @@ use Rattle.session.specs.Answers.{answer_number}
 use Rattle.session.specs.declared.session.Session.{Session}
 use Rattle.session.specs.declared.answer.Answer.TheVariants as answer
 use Rattle.picture.specs.Cursor as cursor
-use Rattle.picture.specs.declared.cursor.EditCursor.TheVariants.{Nowhere}
 use Rattle.handset.specs.Open.{open_refusal, open_answer, open_sheet}
 use Rattle.handset.specs.Event.{event_refusal, refused_with, event_step, event_answer, event_sheet}
 use Rattle.handset.specs.Draw.{draw_refusal, draw_cursor, drawn_picture}
@@ -70,7 +69,7 @@ pub record EventRefused (im sheet : List ℕ) (s : Session) (e : ℕ) : Type 0 w
 -- a refused Draw, whose number `draw_refusal` is; it is lent the sheet for reading only
 pub record DrawRefused (im sheet : List ℕ) (s : Session) (picture : List ℕ) : Type 0 where
   -- (by definition) has no edit cursor
-  pub nowhere : draw_cursor im (length sheet) s (length picture) ≡ cursor.cursor_place Nowhere
+  pub nowhere : draw_cursor im (length sheet) s (length picture) ≡ cursor.cursor_place None
   -- (by definition) alters no byte of the picture
   pub keeps : drawn_picture im sheet s picture ≡ picture
 

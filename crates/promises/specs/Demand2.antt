@@ -1,5 +1,5 @@
 -- Demand 2: what is accepted, and what the calls then do. For the marks see `Promises`.
-use Rattle.std.specs.Prelude.{ℕ, ◌+◌, ◌<◌, ◌≡◌, ◌↔◌, true, length, get_or}
+use Rattle.std.specs.Prelude.{ℕ, ◌+◌, ◌<◌, ◌≡◌, ◌↔◌, true, length, get_or, Option}
 use mathlib.Core.List.{List, Memᴰ}
 use Rattle.laws.specs.Bytes.{byte_at}
 use Rattle.laws.specs.Parts.{part_at}
@@ -95,7 +95,7 @@ pub record ToldApart : Type 0 where
   pub whole : (im sheet : List ℕ) (s : Session) (e : ℕ)
       → told_number (event_step im sheet s e).answer ≡ event_answer im sheet s e
   -- (theorem) no two edit cursors share theirs
-  pub cursors : (a b : EditCursor) → cursor.cursor_place a ≡ cursor.cursor_place b → a ≡ b
+  pub cursors : (a b : Option EditCursor) → cursor.cursor_place a ≡ cursor.cursor_place b → a ≡ b
 
 -- an option text
 pub record OptionTexts (im : List ℕ) : Type 0 where

@@ -1,6 +1,6 @@
 -- What holds of every Draw, whatever image, sheet, session and picture are: theorems over the definitions
 -- that its contract cites.
-use Rattle.std.specs.Prelude.{ℕ, ◌+◌, ◌-◌, ◌≤◌, ◌<◌, ◌≡◌, true, false, length}
+use Rattle.std.specs.Prelude.{ℕ, ◌+◌, ◌-◌, ◌≤◌, ◌<◌, ◌≡◌, true, false, length, None, Some}
 use mathlib.Core.List.{List, Memᴰ}
 use Rattle.field.specs.Sheet.{own_bytes}
 use Rattle.field.specs.declared.kind.ImagePlace.{ImagePlace}
@@ -10,7 +10,6 @@ use Rattle.session.specs.declared.session.Mode.TheVariants as mode
 use Rattle.session.specs.declared.session.Session.{Session}
 use Rattle.picture.specs.Rows.{visiting}
 use Rattle.picture.specs.Cursor.{cursor_place}
-use Rattle.picture.specs.declared.cursor.EditCursor.TheVariants.{Nowhere, At}
 use Rattle.handset.specs.Draw.{draw_refusal, draw_cursor, drawn_picture}
 
 -- the component at p is on a line that is shown: one of the lines - 1 from the first shown line on, as far as
@@ -40,15 +39,15 @@ pub record DataCell (s : Session) (row column : ℕ) : Type 0 where
 pub record DrawPromises (im sheet : List ℕ) (s : Session) (picture : List ℕ) : Type 0 where
   -- the edit cursor lies inside the picture, on a data cell
   pub cursor_inside : (row column : ℕ)
-      → draw_cursor im (length sheet) s (length picture) ≡ cursor_place (At row column)
+      → draw_cursor im (length sheet) s (length picture) ≡ cursor_place (Some (record { row = row; column = column }))
       → DataCell s row column
   -- a visit has one
   pub cursor_there : draw_refusal im (length sheet) s (length picture) ≡ 0
       → (p : ImagePlace) → s.mode ≡ mode.Visit p
-      → draw_cursor im (length sheet) s (length picture) ≡ cursor_place Nowhere → ⊥
+      → draw_cursor im (length sheet) s (length picture) ≡ cursor_place None → ⊥
   -- and nothing else has
   pub cursor_only : ((p : ImagePlace) → s.mode ≡ mode.Visit p → ⊥)
-      → draw_cursor im (length sheet) s (length picture) ≡ cursor_place Nowhere
+      → draw_cursor im (length sheet) s (length picture) ≡ cursor_place None
   -- the picture depends on no byte of the sheet but those of fields on shown lines
   pub shows : (other : List ℕ) → AgreeWhereShown im s sheet other
       → drawn_picture im sheet s picture ≡ drawn_picture im other s picture

@@ -94,14 +94,14 @@ fn run_open(
     print!(rt; "{}", Hex(sheet))
 }
 
-fn print_cursor(rt: &impl Print, cursor: EditCursor) -> io::Result<()> {
+fn print_cursor(rt: &impl Print, cursor: Option<EditCursor>) -> io::Result<()> {
     match cursor {
-        EditCursor::Nowhere => print!(rt; "-"),
-        EditCursor::At { row, column } => print!(rt; "{row},{column}"),
+        None => print!(rt; "-"),
+        Some(EditCursor { row, column }) => print!(rt; "{row},{column}"),
     }
 }
 
-fn print_drawn(rt: &impl Print, refusal: u8, cursor: EditCursor, picture: &[u8]) -> io::Result<()> {
+fn print_drawn(rt: &impl Print, refusal: u8, cursor: Option<EditCursor>, picture: &[u8]) -> io::Result<()> {
     print!(rt; "{refusal} ")?;
     print_cursor(rt, cursor)?;
     print!(rt; " {}", Hex(picture))

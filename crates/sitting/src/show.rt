@@ -33,14 +33,14 @@ fn print_caret(out: &impl Print, column: usize) -> io::Result<()> {
 }
 
 // The edit cursor, where it is on a row.
-fn print_cursor(out: &impl Print, cursor: EditCursor, under: usize) -> io::Result<()> {
+fn print_cursor(out: &impl Print, cursor: Option<EditCursor>, under: usize) -> io::Result<()> {
     match cursor {
-        EditCursor::At { row, column } if row == under => print_caret(out, column),
+        Some(EditCursor { row, column }) if row == under => print_caret(out, column),
         _ => Ok(()),
     }
 }
 
-fn print_rows(out: &impl Print, picture: &[u8], cursor: EditCursor) -> io::Result<()> {
+fn print_rows(out: &impl Print, picture: &[u8], cursor: Option<EditCursor>) -> io::Result<()> {
     for row in 0..ROWS {
         print_row(out, picture, row)?;
         print_cursor(out, cursor, row)?;
@@ -51,7 +51,7 @@ fn print_rows(out: &impl Print, picture: &[u8], cursor: EditCursor) -> io::Resul
 fn print_drawn(
     out: &impl Print,
     refusal: u8,
-    cursor: EditCursor,
+    cursor: Option<EditCursor>,
     picture: &[u8],
 ) -> io::Result<()> {
     if refusal != 0 {
