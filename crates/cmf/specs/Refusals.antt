@@ -1,5 +1,5 @@
 -- The numbers of refusals.
-use Rattle.std.specs.Prelude.{ℕ, Option, Some, None}
+use Rattle.std.specs.Prelude.{ℕ, Option, Some, None, Result, Ok, Err}
 use Rattle.cmf.specs.declared.refusal.Refusal.{Refusal}
 use Rattle.cmf.specs.declared.refusal.Refusal.TheVariants as fault
 
@@ -28,3 +28,8 @@ number fault.Room = 25
 abbrev pub refusal_number : Option Refusal → ℕ
 refusal_number None = 0
 refusal_number (Some r) = number r
+
+-- and the same for what a call answers or is refused with
+abbrev pub refusal_in : {A : Type 0} → Result A Refusal → ℕ
+refusal_in (Ok a) = 0
+refusal_in (Err r) = number r

@@ -11,7 +11,7 @@ use lib.ListN.{length, set, length-set, length-map}
 use borrow.Author.Tests.{ltb-true, ltb-false}
 use Rattle.laws.specs.Choice.{when◌then◌else◌, ◌=?◌, ◌<?◌}
 use Rattle.laws.specs.Overwrite.{over, fit}
-use Rattle.laws.proofs.Cases.{by_test, if_eq, if_ne, if_lt, if_ge}
+use Rattle.laws.proofs.Cases.{by_test, if_eq, if_lt, if_ge}
 use Rattle.laws.proofs.Overwriting.{over_nil, over_out, over_cons, over_blank, length_fit}
 use Rattle.field.specs.Sheet.{default_written}
 use Rattle.field.specs.declared.record.Field.{Field}
@@ -197,12 +197,6 @@ list_taken fs s ps n b e few =
 -- ---- the list of an image that is refused, and of one that is not
 
 module _ (im : List ℕ) (extent k : ℕ) (q : k ≡ refusal_of im extent) (ps : List ℕ) (b : ps ≡ fit 0 256 []) where
-  pub none_listed : (k ≡ 0 → ⊥) → (k ≡ refusal_of im extent) × ((0 ≡ length (places_listed im extent)) × (ps ≡ fit 0 256 (places_listed im extent)))
-  unfolding places_listed
-  none_listed h =
-      let e : (when refusal_of im extent =? 0 then field_places im else []) ≡ [] = if_ne _ 0 _ _ (λ z. h (q ∙ z)) in
-      (q, (ap length (sym e), b ∙ ap (fit 0 256) (sym e)))
-
   pub all_listed : (s : List ℕ) {t qs : List ℕ} {r : ℕ} → (k ≡ 0) → gathered t r qs ≡ take_all (fields_of im) (gathered s 0 ps)
       → (0 ≡ refusal_of im extent) × ((r ≡ length (places_listed im extent)) × (qs ≡ fit 0 256 (places_listed im extent)))
   unfolding places_listed

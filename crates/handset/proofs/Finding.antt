@@ -13,6 +13,7 @@ use borrow.Author.Tests.{eqb-true}
 use Rattle.laws.specs.Bytes.{byte_at}
 use Rattle.laws.specs.Choice.{when◌then◌else◌, ◌and◌, ◌=?◌, ◌<?◌}
 use Rattle.laws.proofs.Cases.{if_ind, if_eq, if_ne}
+use Rattle.cmf.specs.Refusals.{refusal_number}
 use Rattle.cmf.specs.Readers.{item_place, component_at}
 use Rattle.cmf.specs.Places.{is_in}
 use Rattle.acceptance.specs.Check.{checked, refusal_of}
@@ -82,16 +83,16 @@ searched p xs k false h = sym (none_found p xs k (λ i l.
     rw e at (h i 0 (omega arith) (omega (arith, length-range_with_len 0 k)))))
 
 -- the refusal by what the check came to, where it refuses nothing
-pub refusal_good : (im : List ℕ) (extent place item : ℕ) (w : Progress) (xs : List ℕ) → w ≡ (checked im extent).progress → xs ≡ index_of (checked im extent).fields → w.refusal ≡ 0
+pub refusal_good : (im : List ℕ) (extent place item : ℕ) (w : Progress) (xs : List ℕ) → w ≡ (checked im extent).progress → xs ≡ index_of (checked im extent).fields → refusal_number w.refusal ≡ 0
     → text_refusal im extent place item ≡ 14 unless (is_in place (places_in xs w.fields) and (item <? items_in (component_at im place).field.kind))
 unfolding text_refusal refusal_of
 refusal_good im extent place item w xs e f z =
     let q = index_read im extent w xs e f z in
-    let p = checked_places im extent (ap (λ (u : Progress). u.refusal) (sym e) ∙ z) in
-    next_given _ _ (ap (λ (u : Progress). u.refusal) (sym e) ∙ z) ∙ rw (sym p, ← q)
+    let p = checked_places im extent (ap (λ (u : Progress). refusal_number u.refusal) (sym e) ∙ z) in
+    next_given _ _ (ap (λ (u : Progress). refusal_number u.refusal) (sym e) ∙ z) ∙ rw (sym p, ← q)
 
 -- a bad image
-pub refusal_bad : (im : List ℕ) (extent place item : ℕ) (w : Progress) → w ≡ (checked im extent).progress → (w.refusal ≡ 0 → ⊥) → w.refusal ≡ text_refusal im extent place item
+pub refusal_bad : (im : List ℕ) (extent place item : ℕ) (w : Progress) → w ≡ (checked im extent).progress → (refusal_number w.refusal ≡ 0 → ⊥) → refusal_number w.refusal ≡ text_refusal im extent place item
 unfolding text_refusal refusal_of
 refusal_bad im extent place item w e h = rw e (sym (first_given _ _ (rw e at h)))
 

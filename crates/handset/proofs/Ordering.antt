@@ -10,6 +10,9 @@ use Rattle.laws.proofs.Cases.{by_test, if_true, if_false, if_eq, if_ne, if_ind}
 use Rattle.acceptance.specs.Check.{refusal_of}
 use Rattle.session.specs.Fits.{session_fits}
 use Rattle.session.specs.declared.session.Session.{Session}
+use Rattle.cmf.specs.Refusals.{number}
+use Rattle.cmf.specs.declared.refusal.Refusal.{Refusal}
+use Rattle.cmf.proofs.Numbers.{number_positive}
 use Rattle.handset.specs.Refusals.{◌before◌, ◌unless◌, session_refusal}
 
 pub first_given : (a b : ℕ) → (a ≡ 0 → ⊥) → a before b ≡ a
@@ -28,16 +31,9 @@ pub failing : (k : ℕ) (t : Bool) → t ≡ false → k unless t ≡ k
 unfolding ◌unless◌
 failing k t h = if_false _ _ h
 
--- one test more after those that give r, which a call knows as k: what the call answers in each case
-module _ (k r j : ℕ) (t : Bool) (e : k ≡ r) where
-  pub refused_before : (k ≡ 0 → ⊥) → k ≡ r before (j unless t)
-  refused_before h = sym (rw (← e) (first_given k _ h))
-
-  pub refused_here : k ≡ 0 → t ≡ false → j ≡ r before (j unless t)
-  refused_here h f = sym (rw (← e) (next_given k _ h ∙ failing j t f))
-
-  pub not_refused : k ≡ 0 → t ≡ true → 0 ≡ r before (j unless t)
-  not_refused h f = sym (rw (← e) (next_given k _ h ∙ holding j t f))
+-- one test more after those that give r, which a call knows as k: what the call answers where it passes
+pub not_refused : (k r j : ℕ) (t : Bool) → k ≡ r → k ≡ 0 → t ≡ true → 0 ≡ r before (j unless t)
+not_refused k r j t e h f = sym (rw (← e) (next_given k _ h ∙ holding j t f))
 
 -- a test first, as a choice
 pub tested_before : (k : ℕ) (t : Bool) (b : ℕ) → (k ≡ 0 → ⊥) → (k unless t) before b ≡ (when t then b else k)
@@ -79,3 +75,10 @@ unfolding session_refusal
 session_granted im extent s h =
     let a = none_before _ _ h in
     record { accepted = a.0; fits = none_unless 12 (session_fits im s) (λ z. omega arith) a.1 }
+
+-- the first refusal is that of both, and no refusal leaves the second
+pub stops_at : (a b : ℕ) (f : Refusal) → number f ≡ a → number f ≡ a before b
+stops_at a b f h = h ∙ sym (first_given a b (λ z. omega (arith, number_positive f, h, z)))
+
+pub goes_on : (a b : ℕ) {k : ℕ} → 0 ≡ a → k ≡ b → k ≡ a before b
+goes_on a b h e = e ∙ sym (next_given a b (sym h))

@@ -1,10 +1,12 @@
 -- 01, The four calls: the option text. It takes image and sheet and no session.
-use Rattle.std.specs.Prelude.{ℕ, ◌+◌, ◌≤◌, ◌≡◌, List, length}
+use Rattle.std.specs.Prelude.{ℕ, ◌+◌, ◌≤◌, ◌≡◌, List, [], length, Result, Ok, Err}
+use Rattle.std.specs.Borrow.{Bor}
 use Rattle.laws.specs.Choice.{when◌then◌else◌, ◌and◌, ◌=?◌, ◌<?◌}
 use Rattle.laws.specs.Bytes.{byte_at}
 use Rattle.laws.specs.Parts.{part_at}
 use Rattle.field.specs.declared.kind.Kind.{Kind}
 use Rattle.field.specs.declared.kind.Kind.TheVariants.{Integer, Counter, Time, Date, Switch, Option, Trigger}
+use Rattle.cmf.specs.declared.refusal.Refusal.{Refusal}
 use Rattle.cmf.specs.Readers.{item_place, component_at}
 use Rattle.cmf.specs.Places.{field_places, is_in}
 use Rattle.acceptance.specs.Check.{refusal_of}
@@ -44,6 +46,11 @@ text_place im extent place item =
 unfoldable pub option_text : List ℕ → ℕ → ℕ → ℕ → List ℕ
 option_text im extent place item =
     part_at (text_place im extent place item).start.0 (text_place im extent place item).length im
+
+-- the text that a call answers; a refusal answers an empty one
+abbrev pub text_in : Result (Bor (List ℕ)) Refusal → List ℕ
+text_in (Ok t) = t.now
+text_in (Err r) = []
 
 -- a text is the item's: all of the item is in the image, and the text is the bytes after its length byte, as
 -- many as that says

@@ -1,57 +1,56 @@
 // The call Draw: fills a picture, and says where the edit cursor is.
 ghost use Rattle.std.specs.Prelude.{◌≡◌, ◌*◌, length};
 ghost use Rattle.laws.specs.Choice.{◌=?◌};
+ghost use Rattle.cmf.specs.Refusals.{refusal_in};
 ghost use Rattle.picture.specs.Cursor.{cursor_place};
-ghost use Rattle.handset.specs.Refusals.{◌before◌, ◌unless◌};
-ghost use Rattle.handset.specs.Draw.{draw_refusal, draw_cursor, drawn_picture};
+ghost use Rattle.handset.specs.Refusals.{◌unless◌};
+ghost use Rattle.handset.specs.Draw.{cursor_in, draw_refusal, draw_cursor, drawn_picture};
 
-use crate::refusal::{NO_PICTURE, refusal_of, session_refusal};
+use crate::refusal::check_sitting;
+use cmf::refusal::Refusal;
 use picture::cursor::{EditCursor, edit_cursor};
 use picture::picture::put_picture;
 use session::session::Session;
 
-// The refusal number, 0 for none, and the edit cursor: none where it is refused.
-#[derive(Clone, Copy)]
-pub struct Drawn {
-    pub refusal: u8,
-    pub cursor: Option<EditCursor>,
-}
-
-// The refusal number, 0 for none, where that of image, sheet and session is known; the picture has so many
-// bytes.
-fn draw_refusal(refusal: u8, columns: u8, lines: u8, length: usize) -> u8
-    ensures { result ≡ (refusal before (1 unless (length =? columns * lines))) }
+// A picture of so many bytes for a display of so many columns and lines.
+fn check_picture(columns: u8, lines: u8, length: usize) -> Result<(), Refusal>
+    ensures { refusal_in result ≡ (1 unless (length =? columns * lines)) }
 {
-    if refusal != 0 {
-        return refusal;
-    }
     if length == columns as usize * lines as usize {
-        return 0;
+        return Ok(());
     }
-    NO_PICTURE
+    Err(Refusal::Shape)
 }
 
-pub fn draw(image: &[u8], sheet: &[u8], session: Session, picture: &mut [u8]) -> Drawn
-    ensures refusal_value { result.refusal ≡ draw_refusal image.now (length sheet.now) session
+// Image, sheet and session, and then the picture's length.
+fn check_drawing(
+    image: &[u8],
+    extent: usize,
+    session: Session,
+    length: usize,
+) -> Result<(), Refusal>
+    ensures { refusal_in result ≡ draw_refusal image.now extent session length }
+{
+    check_sitting(image, extent, session)?;
+    check_picture(session.columns, session.lines, length)
+}
+
+// The edit cursor, if there is one.
+pub fn draw(
+    image: &[u8],
+    sheet: &[u8],
+    session: Session,
+    picture: &mut [u8],
+) -> Result<Option<EditCursor>, Refusal>
+    ensures refusal_value { refusal_in result ≡ draw_refusal image.now (length sheet.now) session
         (length picture.old) }
-    ensures cursor_value { cursor_place result.cursor
+    ensures cursor_value { cursor_place (cursor_in result)
         ≡ draw_cursor image.now (length sheet.now) session
         (length picture.old) }
     ensures picture_after { picture.new
         ≡ drawn_picture image.now sheet.now session picture.old }
 {
-    let faulty = refusal_of(image, sheet.len());
-    let unfit = session_refusal(faulty, image, session);
-    let refusal = draw_refusal(unfit, session.columns, session.lines, picture.len());
-    if refusal != 0 {
-        return Drawn {
-            refusal,
-            cursor: None,
-        };
-    }
-    put_picture(image, sheet, session, &mut *picture);
-    Drawn {
-        refusal: 0,
-        cursor: edit_cursor(image, session),
-    }
+    check_drawing(image, sheet.len(), session, picture.len())?;
+    put_picture(image, sheet, session, picture);
+    Ok(edit_cursor(image, session))
 }

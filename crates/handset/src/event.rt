@@ -3,24 +3,30 @@ ghost use Rattle.std.specs.Prelude.{◌≡◌};
 ghost use Rattle.laws.specs.Choice.{◌≤?◌};
 ghost use Rattle.session.specs.Events.{second};
 ghost use Rattle.session.specs.Answers.{answer_number};
-ghost use Rattle.handset.specs.Refusals.{◌before◌, ◌unless◌};
-ghost use Rattle.handset.specs.Event.{event_step, event_answer, event_sheet};
+ghost use Rattle.cmf.specs.Refusals.{refusal_in};
+ghost use Rattle.handset.specs.Refusals.{◌unless◌};
+ghost use Rattle.handset.specs.Event.{event_refusal, event_step, event_answer, event_sheet};
 
-use crate::refusal::{NO_EVENT, refusal_of, session_refusal};
+use crate::refusal::check_sitting;
+use cmf::refusal::Refusal;
 use session::answer::{Answer, Stepped};
 use session::session::Session;
 
-// The refusal number, 0 for none, where that of image, sheet and session is known.
-pub fn event_refusal(refusal: u8, event: u8) -> u8
-    ensures { result ≡ (refusal before (13 unless (event ≤? second))) }
+fn check_event(event: u8) -> Result<(), Refusal>
+    ensures { refusal_in result ≡ (13 unless (event ≤? second)) }
 {
-    if refusal != 0 {
-        return refusal;
-    }
     if event <= Session::SECOND {
-        return 0;
+        return Ok(());
     }
-    NO_EVENT
+    Err(Refusal::Event)
+}
+
+// Image, sheet and session, and then the event.
+fn check_step(image: &[u8], extent: usize, session: Session, event: u8) -> Result<(), Refusal>
+    ensures { refusal_in result ≡ event_refusal image.now extent session event }
+{
+    check_sitting(image, extent, session)?;
+    check_event(event)
 }
 
 // The next session with the answer. The sheet changes only where a visit is finished, and only in that
@@ -32,14 +38,11 @@ pub fn event(image: &[u8], sheet: &mut [u8], session: Session, event: u8) -> Ste
     ensures sheet_after { sheet.new
         ≡ event_sheet image.now sheet.old session event }
 {
-    let faulty = refusal_of(image, sheet.len());
-    let unfit = session_refusal(faulty, image, session);
-    let refusal = event_refusal(unfit, event);
-    if refusal != 0 {
-        return Stepped {
+    match check_step(image, sheet.len(), session, event) {
+        Ok(()) => session.step(image, sheet, event),
+        Err(refusal) => Stepped {
             session,
-            answer: Answer::Refused(refusal),
-        };
+            answer: Answer::Refused(refusal.number()),
+        },
     }
-    session.step(image, &mut *sheet, event)
 }

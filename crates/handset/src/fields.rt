@@ -1,7 +1,8 @@
 // The fields of an image, in one walk over its tables, lines and components: each one's default is written to
 // a lent sheet, and its place is set in a lent list, as far as they have room. Open lends no list, and
 // `list_fields` no sheet.
-ghost use Rattle.std.specs.Prelude.{◌≡◌, length};
+ghost use Rattle.std.specs.Prelude.{◌≡◌, length, IfOk};
+ghost use Rattle.cmf.specs.Refusals.{refusal_in};
 ghost use Rattle.laws.specs.Overwrite.{fit};
 ghost use Rattle.cmf.specs.Limits.{most_fields};
 ghost use Rattle.cmf.specs.Places.{rest_of_line, held_by, table_reach, fields_among, fields_of};
@@ -10,18 +11,17 @@ ghost use Rattle.handset.specs.Fields.{places_listed};
 ghost use Rattle.handset.specs.Taking.{gathered, take_one, take_all};
 ghost use Rattle.handset.specs.Open.{defaults_written};
 
-use crate::refusal::refusal_of;
+use crate::refusal::check_image;
 use cmf::component::{Component, read_component};
 use cmf::head::read_head;
 use cmf::image::Image;
+use cmf::refusal::Refusal;
 use cmf::title::read_title;
 use field::record::Field;
 
-// The refusal number of an image, 0 for none, and the image places of its fields in the order of the walk, as
-// many as `count`, with zeros after them. An image that is refused has none.
+// The image places of an image's fields in the order of the walk, as many as `count`, with zeros after them.
 #[derive(Drop)]
 pub struct FieldList {
-    pub refusal: u8,
     pub count: usize,
     pub places: [usize; Image::MAX_FIELDS],
 }
@@ -118,21 +118,14 @@ pub(crate) fn write_defaults(image: &[u8], sheet: &mut [u8])
 }
 
 // The fields of an image, for a sheet of so many bytes.
-pub fn list_fields(image: &[u8], extent: usize) -> FieldList
-    ensures refusal_value { result.refusal ≡ refusal_of image.now extent }
-    ensures count_value { result.count ≡ length (places_listed image.now extent) }
-    ensures places_value { result.places ≡ fit 0 most_fields (places_listed image.now extent) }
+pub fn list_fields(image: &[u8], extent: usize) -> Result<FieldList, Refusal>
+    ensures refusal_value { refusal_in result ≡ refusal_of image.now extent }
+    ensures fields_value { IfOk result (λ l. (l.count ≡ length (places_listed image.now extent))
+        × (l.places ≡ fit 0 most_fields (places_listed image.now extent))) }
 {
+    check_image(image, extent)?;
     let mut none = [0u8; 0];
     let mut places = [0usize; Image::MAX_FIELDS];
-    let refusal = refusal_of(image, extent);
-    if refusal != 0 {
-        return FieldList {
-            refusal,
-            count: 0,
-            places,
-        };
-    }
     let count = take_table(
         image,
         Image::MAX_DEPTH,
@@ -141,9 +134,5 @@ pub fn list_fields(image: &[u8], extent: usize) -> FieldList
         0,
         &mut places,
     );
-    FieldList {
-        refusal: 0,
-        count,
-        places,
-    }
+    Ok(FieldList { count, places })
 }

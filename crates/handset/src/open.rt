@@ -1,10 +1,12 @@
 // The call Open: checks image and sheet, writes each field's default, and gives a session.
 ghost use Rattle.std.specs.Prelude.{◌≡◌, length};
+ghost use Rattle.cmf.specs.Refusals.{number};
 ghost use Rattle.session.specs.Session.{closed};
 ghost use Rattle.handset.specs.Open.{open_answer, open_sheet};
 
 use crate::fields::write_defaults;
-use crate::refusal::{NO_SHAPE, refusal_of};
+use crate::refusal::check_image;
+use cmf::refusal::Refusal;
 use session::fits::shape_fits;
 use session::session::Session;
 
@@ -15,11 +17,11 @@ pub struct Opened {
     pub session: Session,
 }
 
-fn refused(refusal: u8) -> Opened
-    ensures { result ≡ record { refusal = refusal; session = closed } }
+fn refused(refusal: Refusal) -> Opened
+    ensures { result ≡ record { refusal = number refusal; session = closed } }
 {
     Opened {
-        refusal,
+        refusal: refusal.number(),
         session: Session::closed(),
     }
 }
@@ -28,15 +30,13 @@ pub fn open(image: &[u8], sheet: &mut [u8], columns: u8, lines: u8) -> Opened
     ensures value { result ≡ open_answer image.now (length sheet.old) columns lines }
     ensures sheet_after { sheet.new ≡ open_sheet image.now sheet.old columns lines }
 {
-    let shape = shape_fits(columns, lines);
-    if !shape {
-        return refused(NO_SHAPE);
+    if !shape_fits(columns, lines) {
+        return refused(Refusal::Shape);
     }
-    let refusal = refusal_of(image, sheet.len());
-    if refusal != 0 {
+    if let Err(refusal) = check_image(image, sheet.len()) {
         return refused(refusal);
     }
-    write_defaults(image, &mut *sheet);
+    write_defaults(image, sheet);
     Opened {
         refusal: 0,
         session: Session::opened(columns, lines),

@@ -2,12 +2,13 @@
 ghost use Rattle.std.specs.Prelude.{◌≡◌, length};
 ghost use Rattle.cmf.specs.Places.{is_in};
 ghost use Rattle.acceptance.specs.Index.{places_in};
-ghost use Rattle.handset.specs.OptionText.{items_in, text_refusal, text_place, option_text};
+ghost use Rattle.cmf.specs.Refusals.{refusal_in};
+ghost use Rattle.handset.specs.OptionText.{items_in, text_refusal, text_place, text_in, option_text};
 
-use crate::refusal::NO_ITEM;
 use acceptance::index::entry_at;
 use cmf::component::read_component;
-use cmf::text::item_place;
+use cmf::refusal::Refusal;
+use cmf::text::{item_bytes, item_place};
 use field::kind::{ImagePlace, Kind};
 use laws::byte_at;
 use walk::check::check;
@@ -37,37 +38,34 @@ fn items_in(kind: Kind) -> usize
     }
 }
 
-// The refusal number, 0 for none.
-fn text_refusal(image: &[u8], extent: usize, place: usize, item: usize) -> u8
-    ensures { result ≡ text_refusal image.now extent place item }
+// Image and sheet, and then the place of a reached option and the number of its item.
+fn check_item(image: &[u8], extent: usize, place: usize, item: usize) -> Result<(), Refusal>
+    ensures { refusal_in result ≡ text_refusal image.now extent place item }
 {
     let c = check(image, extent);
-    let refusal = c.progress.refusal;
-    if refusal != 0 {
-        return refusal;
+    if let Some(refusal) = c.progress.refusal {
+        return Err(refusal);
     }
     if is_reached(&c.index, c.progress.fields, place)
         && item < items_in(read_component(image, place).field.kind)
     {
-        return 0;
+        return Ok(());
     }
-    NO_ITEM
+    Err(Refusal::Item)
 }
 
 // Where an item's text is.
 pub fn text_place(image: &[u8], sheet: &[u8], place: ImagePlace, item: usize) -> TextPlace
     ensures { result ≡ text_place image.now (length sheet.now) place.0 item }
 {
-    let at = place.0;
-    let refusal = text_refusal(image, sheet.len(), at, item);
-    if refusal != 0 {
+    if let Err(refusal) = check_item(image, sheet.len(), place.0, item) {
         return TextPlace {
-            refusal,
+            refusal: refusal.number(),
             start: ImagePlace(0),
             length: 0,
         };
     }
-    let text = item_place(image, at, item);
+    let text = item_place(image, place.0, item);
     TextPlace {
         refusal: 0,
         start: ImagePlace(text + 1),
@@ -75,21 +73,17 @@ pub fn text_place(image: &[u8], sheet: &[u8], place: ImagePlace, item: usize) ->
     }
 }
 
-// An item's text; the refusal number goes to `refusal`, and a refusal gives an empty part.
-pub fn option_text<'a, 'b, 'c>(
+// An item's text.
+pub fn option_text<'a>(
     image: &'a [u8],
-    sheet: &'b [u8],
+    sheet: &[u8],
     place: ImagePlace,
     item: usize,
-    refusal: &'c mut u8,
-) -> &'a [u8]
-    ensures result_value { result.now ≡ option_text image.now (length sheet.now) place.0 item }
-    ensures refusal_after { refusal.new
+) -> Result<&'a [u8], Refusal>
+    ensures refusal_value { refusal_in result
         ≡ text_refusal image.now (length sheet.now) place.0 item }
+    ensures text_value { text_in result ≡ option_text image.now (length sheet.now) place.0 item }
 {
-    let found = text_place(image, sheet, place, item);
-    *refusal = found.refusal;
-    let start = found.start.0;
-    let end = start + found.length;
-    &image[start..end]
+    check_item(image, sheet.len(), place.0, item)?;
+    Ok(item_bytes(image, place.0, item))
 }

@@ -1,18 +1,18 @@
 -- By whether the image is refused. The top table has all fields, and the list is zeros before them.
 use mathlib.Core.Path.{refl}
+use Rattle.std.proofs.lemmas.Result.{err_from_is_err_and}
 use Rattle.laws.specs.Overwrite.{fit}
 use Rattle.cmf.specs.Places.{component_places, fields_of}
-use Rattle.handset.proofs.Filling.{none_listed, all_listed}
+use Rattle.handset.proofs.Filling.{all_listed}
 use Rattle.handset.proofs.fields.list_fields.Goals as goal
 
-pub returns-then-refusal-ne0 : goal.returns-then-refusal-ne0
-unfolding fit
-returns-then-refusal-ne0 c =
-    let told = none_listed c.args.image.now c.args.extent _ c.refusal_of-refusal.ensures _ refl c.if-refusal-ne0.true in
-    record { refusal_value = told.0; count_value = told.1.0; places_value = told.1.1 }
+pub returns-in_err-check_image : goal.returns-in_err-check_image
+returns-in_err-check_image c =
+    let p = err_from_is_err_and c.from_residual.result c.from_residual.ensures.1 in
+    record { refusal_value = rw (p.1, p.2) c.in_err-check_image.ensures; fields_value = rw p.1 tt }
 
 pub returns : goal.returns
 unfolding fields_of component_places fit
 returns c =
-    let told = all_listed c.args.image.now c.args.extent _ c.refusal_of-refusal.ensures _ refl _ c.if-refusal-ne0.false c.take_table-count.ensures in
-    record { refusal_value = told.0; count_value = told.1.0; places_value = told.1.1 }
+    let told = all_listed c.args.image.now c.args.extent _ c.in_ok-check_image.ensures _ refl _ refl c.take_table-count.ensures in
+    record { refusal_value = told.0; fields_value = told.1 }

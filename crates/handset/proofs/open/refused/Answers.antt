@@ -2,4 +2,4 @@
 use Rattle.handset.proofs.open.refused.Goals as goal
 
 pub returns : goal.returns
-returns c = simp c.closed.ensures
+returns c = simp (c.number.ensures, c.closed.ensures)
