@@ -1,35 +1,17 @@
 // The display in a frame. In a visit the cursor line has a line below it, outside the frame, with '^' under
 // the cell that the edit cursor is on.
-use console::display::{CELLS, ROWS, WIDTH};
-use console::words::{say, say_plain, say_refusal};
+use console::display::{CELLS, WIDTH};
+use console::words::{Plain, Refusal};
 use handset::draw::draw;
 use picture::cursor::EditCursor;
 use session::session::Session;
 use std::io;
 
-fn print_edge(out: &impl Print) -> io::Result<()> {
-    say(out, b"+--------------------+\n")
-}
-
-fn print_row(out: &impl Print, picture: &[u8], row: usize) -> io::Result<()> {
-    if row < ROWS {
-        let from = WIDTH * row;
-        let to = from + WIDTH;
-        if to <= picture.len() {
-            say(out, b"|")?;
-            say_plain(out, &picture[from..to])?;
-            say(out, b"|\n")?;
-        }
-    }
-    Ok(())
-}
+const EDGE: &str = "+--------------------+";
 
 // A '^' under a column; the frame's bar is before column 0.
 fn print_caret(out: &impl Print, column: usize) -> io::Result<()> {
-    for _ in 0..column {
-        say(out, b" ")?;
-    }
-    say(out, b" ^\n")
+    println!(out; "{:column$} ^", "")
 }
 
 // The edit cursor, where it is on a row.
@@ -40,14 +22,6 @@ fn print_cursor(out: &impl Print, cursor: EditCursor, under: usize) -> io::Resul
     }
 }
 
-fn print_rows(out: &impl Print, picture: &[u8], cursor: EditCursor) -> io::Result<()> {
-    for row in 0..ROWS {
-        print_row(out, picture, row)?;
-        print_cursor(out, cursor, row)?;
-    }
-    Ok(())
-}
-
 fn print_drawn(
     out: &impl Print,
     refusal: u8,
@@ -55,11 +29,14 @@ fn print_drawn(
     picture: &[u8],
 ) -> io::Result<()> {
     if refusal != 0 {
-        return say_refusal(out, refusal);
+        return println!(out; "{}", Refusal(refusal));
     }
-    print_edge(out)?;
-    print_rows(out, picture, cursor)?;
-    print_edge(out)
+    println!(out; "{EDGE}")?;
+    for (row, cells) in picture.chunks_exact(WIDTH).enumerate() {
+        println!(out; "|{}|", Plain(cells))?;
+        print_cursor(out, cursor, row)?;
+    }
+    println!(out; "{EDGE}")
 }
 
 // The picture of a session.
