@@ -1,6 +1,5 @@
 // The keys of a sitting: letters that stand for the handset's keys, read one by one, played and noted. A
 // line's end shows the picture.
-use crate::show::show;
 use console::events::{Answered, Key};
 use console::file::fail;
 use handset::event::event;
@@ -28,7 +27,7 @@ fn event_of(letter: u8) -> Option<u8> {
     }
 }
 
-// A sitting under way: the sheet and the session that the keys so far have left, and the events that they were.
+// A sitting under way: the sheet and the session that the keys so far have left, and their events.
 #[derive(Drop)]
 pub struct Sitting<'a> {
     pub image: &'a [u8],
@@ -38,11 +37,6 @@ pub struct Sitting<'a> {
 }
 
 impl Sitting<'_> {
-    // The picture as it is now.
-    pub fn show(&self, out: &impl Print) -> io::Result<()> {
-        show(out, self.image, &self.sheet, self.session)
-    }
-
     // Plays an event, and says what was pressed and answered.
     fn step(&mut self, out: &impl Print, number: u8) -> io::Result<()> {
         let stepped = event(self.image, &mut self.sheet, self.session, number);
