@@ -28,6 +28,7 @@ fn numbers_of(alloc: Global, bytes: &[u8]) -> Result<Vec<u16>, AllocError> {
 }
 
 // The refusal of a key that ends inside a number: it does not fit; those of image and sheet come first.
+#[tactic(auto, using(handset::proofs::Ordering::first_given, handset::proofs::Ordering::next_given))]
 fn odd_refusal(image: &[u8], extent: usize) -> u8
     ensures { result ≡ refusal_of image.now extent before 15 }
 {

@@ -12,6 +12,7 @@ use playback::play::play;
 pub const MAX_RECORD: usize = 16000;
 
 // A record as it is played: a longer one counts as empty.
+#[tactic(auto, using(laws::proofs::Cases::if_le, laws::proofs::Cases::if_gt))]
 pub fn taken(recorded: &[u8]) -> &[u8]
     ensures { result.now ≡ (when length recorded.now ≤? 16000
         then recorded.now else []) }
