@@ -4,7 +4,5 @@
 use std::io;
 
 fn main(rt: HostRuntime) -> io::Result<()> {
-    let mut image = [0u8; runner::ROOM];
-    let mut sheet = [0u8; runner::ROOM];
-    runner::run_cases(&rt, &mut image, &mut sheet)
+    runner::run_cases(&rt)
 }

@@ -1,42 +1,45 @@
-// Keys and answers in words. An answer comes as its number, since a list of answers has no more.
-use crate::words::{say, say_refusal};
+// Keys and answers in words.
+use crate::words::Refusal;
 use session::answer::Answer;
 use session::session::Session;
-use std::io;
+use std::fmt;
 
 // The key of an event.
-pub fn say_key(out: &impl Print, event: u8) -> io::Result<()> {
-    match event {
-        Session::POINT => say(out, b"POINT: "),
-        Session::UP => say(out, b"UP: "),
-        Session::DOWN => say(out, b"DOWN: "),
-        Session::LEFT => say(out, b"LEFT: "),
-        Session::RIGHT => say(out, b"RIGHT: "),
-        Session::ENTER => say(out, b"ENTER: "),
-        Session::SECOND => say(out, b"one second: "),
-        _ => print!(out; "{event}: "),
+#[derive(Clone, Copy)]
+pub struct Key(pub u8);
+
+impl fmt::Display for Key {
+    fn fmt<W: fmt::Write>(&self, f: &mut fmt::Formatter<W>) -> fmt::Result {
+        match self.0 {
+            Session::POINT => f.write_str("POINT"),
+            Session::UP => f.write_str("UP"),
+            Session::DOWN => f.write_str("DOWN"),
+            Session::LEFT => f.write_str("LEFT"),
+            Session::RIGHT => f.write_str("RIGHT"),
+            Session::ENTER => f.write_str("ENTER"),
+            Session::SECOND => f.write_str("one second"),
+            digit => write!(f, "{digit}"),
+        }
     }
 }
 
-// An answer without a place: 0 is taken, and any other number flash.
-fn say_plain_answer(out: &impl Print, number: u32) -> io::Result<()> {
-    if number == 0 {
-        return say(out, b"taken\n");
-    }
-    say(out, b"flash\n")
-}
+// An answer by its number, since a list of answers has no more.
+#[derive(Clone, Copy)]
+pub struct Answered(pub u32);
 
-// The answer of a number.
-pub fn say_answer(out: &impl Print, number: u32) -> io::Result<()> {
-    if number < Answer::FINISHED {
-        return say_plain_answer(out, number);
+impl fmt::Display for Answered {
+    fn fmt<W: fmt::Write>(&self, f: &mut fmt::Formatter<W>) -> fmt::Result {
+        match self.0 {
+            0 => f.write_str("taken"),
+            1..Answer::FINISHED => f.write_str("flash"),
+            n @ Answer::FINISHED..Answer::FIRED => {
+                write!(f, "finished at place {}", n - Answer::FINISHED)
+            }
+            n @ Answer::FIRED..Answer::REFUSED => {
+                write!(f, "fired at place {}", n - Answer::FIRED)
+            }
+            // A refusal's number fits a byte.
+            n => write!(f, "{}", Refusal(((n - Answer::REFUSED) % 256) as u8)),
+        }
     }
-    if number < Answer::FIRED {
-        return println!(out; "finished at place {}", number - Answer::FINISHED);
-    }
-    if number < Answer::REFUSED {
-        return println!(out; "fired at place {}", number - Answer::FIRED);
-    }
-    // A refusal's number fits a byte.
-    say_refusal(out, ((number - Answer::REFUSED) % 256) as u8)
 }

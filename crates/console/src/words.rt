@@ -1,23 +1,16 @@
-// Words on standard output: numbers, bytes of an image, and what the refusal numbers mean.
-use std::{fmt, io};
-
-pub fn say(out: &impl Print, text: &[u8]) -> io::Result<()> {
-    out.write_all(text)
-}
-
-pub fn say_number(out: &impl Print, number: usize) -> io::Result<()> {
-    print!(out; "{number}")
-}
+// Words for a terminal: counts, bytes of an image, and what the refusal numbers mean.
+use std::fmt;
 
 // So many of something, which a noun names.
-pub fn say_count(out: &impl Print, number: usize, noun: &[u8]) -> io::Result<()> {
-    say_number(out, number)?;
-    say(out, b" ")?;
-    say(out, noun)?;
-    if number != 1 {
-        say(out, b"s")?;
+#[derive(Clone, Copy)]
+pub struct Count<'a>(pub usize, pub &'a str);
+
+impl fmt::Display for Count<'_> {
+    fn fmt<W: fmt::Write>(&self, f: &mut fmt::Formatter<W>) -> fmt::Result {
+        let Count(number, noun) = *self;
+        let ending = if number == 1 { "" } else { "s" };
+        write!(f, "{number} {noun}{ending}")
     }
-    Ok(())
 }
 
 // A byte that a terminal shows; '?' for any other.
@@ -28,9 +21,9 @@ fn shown(byte: u8) -> u8 {
     }
 }
 
-// Bytes as a terminal can show them.
-#[derive(Drop)]
-struct Plain<'a>(&'a [u8]);
+// Bytes of an image, as a terminal can show them.
+#[derive(Clone, Copy)]
+pub struct Plain<'a>(pub &'a [u8]);
 
 impl fmt::Display for Plain<'_> {
     fn fmt<W: fmt::Write>(&self, f: &mut fmt::Formatter<W>) -> fmt::Result {
@@ -39,11 +32,6 @@ impl fmt::Display for Plain<'_> {
         }
         Ok(())
     }
-}
-
-// Bytes of an image, as a terminal can show them.
-pub fn say_plain(out: &impl Print, bytes: &[u8]) -> io::Result<()> {
-    print!(out; "{}", Plain(bytes))
 }
 
 // What a refusal number means.
@@ -71,6 +59,13 @@ fn meaning(number: u8) -> &'static str {
     }
 }
 
-pub fn say_refusal(out: &impl Print, number: u8) -> io::Result<()> {
-    println!(out; "refused {number}: {}", meaning(number))
+// A refusal by its number, with its meaning.
+#[derive(Clone, Copy)]
+pub struct Refusal(pub u8);
+
+impl fmt::Display for Refusal {
+    fn fmt<W: fmt::Write>(&self, f: &mut fmt::Formatter<W>) -> fmt::Result {
+        let number = self.0;
+        write!(f, "refused {number}: {}", meaning(number))
+    }
 }

@@ -1,11 +1,11 @@
 // A byte of a one-byte field, as the display shows it.
 use crate::trim::trimmed;
 use cmf::component::read_component;
-use console::words::{say_number, say_plain};
+use console::words::Plain;
 use field::kind::SheetPlace;
 use field::record::Field;
 use field::work::in_range;
-use std::io;
+use std::fmt;
 use texts::text::put_field;
 
 // The most cells that a field of one byte takes: an option item's length is a byte.
@@ -19,25 +19,27 @@ fn first_in_sheet(f: Field) -> Field {
     }
 }
 
-// A text, or the byte's number where nothing is to be seen of the text.
-fn say_text(out: &impl Print, text: &[u8], byte: u8) -> io::Result<()> {
-    if text.is_empty() {
-        return say_number(out, byte as usize);
-    }
-    say_plain(out, text)
+// A byte of the field at an image place; its number where the field cannot show it, or nothing is to be seen
+// of its text.
+#[derive(Clone, Copy)]
+pub struct Shown<'a> {
+    pub image: &'a [u8],
+    pub place: usize,
+    pub byte: u8,
 }
 
-// A byte of the field at an image place; its number where the field cannot show it.
-pub fn say_byte(out: &impl Print, image: &[u8], place: usize, byte: u8) -> io::Result<()> {
-    let component = read_component(image, place);
-    let field = component.field;
-    let kind = field.kind;
-    let fine = in_range(kind, byte as u32);
-    if !fine {
-        return say_number(out, byte as usize);
+impl fmt::Display for Shown<'_> {
+    fn fmt<W: fmt::Write>(&self, f: &mut fmt::Formatter<W>) -> fmt::Result {
+        let Shown { image, place, byte } = *self;
+        let field = read_component(image, place).field;
+        if in_range(field.kind, byte as u32) {
+            let mut row = [b' '; CELLS];
+            put_field(&mut row, 0, image, &[byte], place, first_in_sheet(field));
+            let text = trimmed(&row);
+            if !text.is_empty() {
+                return write!(f, "{}", Plain(text));
+            }
+        }
+        write!(f, "{byte}")
     }
-    let sheet = [byte];
-    let mut row = [b' '; CELLS];
-    put_field(&mut row, 0, image, &sheet, place, first_in_sheet(field));
-    say_text(out, trimmed(&row), byte)
 }

@@ -12,14 +12,16 @@ use playback::play::play;
 pub const MAX_RECORD: usize = 16000;
 
 // A record as it is played: a longer one counts as empty.
-pub fn taken<'a>(recorded: &'a [u8]) -> &'a [u8]
+#[tactic(auto, using(laws::proofs::Cases::if_le, laws::proofs::Cases::if_gt))]
+pub fn taken(recorded: &[u8]) -> &[u8]
     ensures { result.now ≡ (when length recorded.now ≤? 16000
         then recorded.now else []) }
 {
     if recorded.len() <= MAX_RECORD {
-        return recorded;
+        recorded
+    } else {
+        &[]
     }
-    &recorded[0..0]
 }
 
 // Plays a record on a display of 20 x 4, and draws the last picture in 80 bytes. Answers the refusal number,
@@ -35,8 +37,7 @@ pub fn replay(image: &[u8], recorded: &[u8], sheet: &mut [u8], picture: &mut [u8
         recorded.now 16000).session }
 {
     let mut answers = [0u32; MAX_RECORD];
-    let replayed = play(image, &mut *sheet, COLUMNS, LINES, recorded, &mut answers);
-    let session = replayed.session;
-    draw(image, sheet, session, &mut *picture);
+    let replayed = play(image, sheet, COLUMNS, LINES, recorded, &mut answers);
+    draw(image, sheet, replayed.session, picture);
     replayed.refusal
 }

@@ -10,39 +10,63 @@ mod recording;
 
 use field::kind::ImagePlace;
 use handset::draw::draw;
-use handset::open::open;
+use handset::open::{Opened, open};
 use handset::option::option_text;
 use hex::Hex;
-use laws::byte_at;
 use picture::cursor::EditCursor;
-use reading::{read_full, read_given, read_number, read_start};
+use reading::{read_full, read_given, read_word};
 use session::session::Session;
 use std::io;
 use walk::check::check;
 
-// A case: check an image, ask for an option's text, open an image on a sheet of bytes 0xEE, draw a session on
-// a picture of bytes 0xEE, play a list of events from Open on, step a session by one event, mark a sheet,
-// record a list of events in room of bytes 0xEE, or play a record from Open on.
-const CHECK: u8 = 1;
+// What a case asks for.
+#[derive(Clone, Copy)]
+enum Operation {
+    // To check an image.
+    Check,
+    // An option's text.
+    Text,
+    // To open an image on a sheet of bytes 0xEE.
+    Open,
+    // To draw a session on a picture of bytes 0xEE.
+    Draw,
+    // To play a list of events from Open on.
+    Play,
+    // To step a session by one event.
+    Step,
+    // To mark a sheet.
+    Mark,
+    // To record a list of events in room of bytes 0xEE.
+    Record,
+    // To play a record from Open on.
+    Replay,
+}
 
-const TEXT: u8 = 2;
+// A number that stands for no operation.
+#[derive(Clone, Copy)]
+struct NoOperation;
 
-const OPEN: u8 = 3;
+impl TryFrom<u8> for Operation {
+    type Error = NoOperation;
 
-const DRAW: u8 = 4;
-
-const PLAY: u8 = 5;
-
-const STEP: u8 = 6;
-
-const MARK: u8 = 7;
-
-const RECORD: u8 = 8;
-
-const REPLAY: u8 = 9;
+    fn try_from(number: u8) -> Result<Self, NoOperation> {
+        match number {
+            1 => Ok(Operation::Check),
+            2 => Ok(Operation::Text),
+            3 => Ok(Operation::Open),
+            4 => Ok(Operation::Draw),
+            5 => Ok(Operation::Play),
+            6 => Ok(Operation::Step),
+            7 => Ok(Operation::Mark),
+            8 => Ok(Operation::Record),
+            9 => Ok(Operation::Replay),
+            _ => Err(NoOperation),
+        }
+    }
+}
 
 // Room for what a case tells the length of in two bytes: an image, a sheet or a record.
-pub const ROOM: usize = 65536;
+const ROOM: usize = 65536;
 
 // The longest picture that a case can have.
 const PICTURE: usize = 256;
@@ -50,48 +74,95 @@ const PICTURE: usize = 256;
 // The most cases that an input can have.
 const MOST: u32 = 65536;
 
-fn write_start(rt: &impl Print, buffer: &[u8], count: usize) -> io::Result<()> {
-    if count <= buffer.len() {
-        rt.write_all(&buffer[..count])?;
+// What a sheet, a picture or a room has before a call that writes to it.
+const UNWRITTEN: u8 = 0xee;
+
+// What every operation is given: an image, a sheet, and a place and an item. Open, a list of events and a
+// record have columns and lines in place of these two, and recording has events and room in place of image
+// and sheet.
+#[derive(Drop)]
+struct Case<'i, 's> {
+    image: &'i [u8],
+    sheet: &'s mut [u8],
+    place: u16,
+    item: u16,
+}
+
+impl Case<'_, '_> {
+    fn columns(&self) -> u8 {
+        (self.place % 256) as u8
     }
-    Ok(())
-}
 
-fn run_check(rt: &impl Print, image: &[u8], sheet: &[u8]) -> io::Result<()> {
-    let c = check(image, sheet.len());
-    print!(rt; "{}", c.progress.refusal)
-}
+    fn lines(&self) -> u8 {
+        (self.item % 256) as u8
+    }
 
-fn run_text(
-    rt: &impl Print,
-    image: &[u8],
-    sheet: &[u8],
-    place: usize,
-    item: usize,
-) -> io::Result<()> {
-    let mut refusal = 0;
-    let text = option_text(image, sheet, ImagePlace(place), item, &mut refusal);
-    print!(rt; "{refusal} {}", Hex(text))
-}
+    fn run(&mut self, rt: &(impl Input + Print + AllocGlobal), op: Operation) -> io::Result<()> {
+        match op {
+            Operation::Check => self.check(rt),
+            Operation::Text => self.text(rt),
+            Operation::Open => self.open(rt),
+            Operation::Draw => self.draw(rt),
+            Operation::Play => self.play(rt),
+            Operation::Step => self.step(rt),
+            Operation::Mark => self.mark(rt),
+            Operation::Record => self.record(rt),
+            Operation::Replay => self.replay(rt),
+        }
+    }
 
-// Every byte of a sheet, picture or room 0xEE.
-fn fill(sheet: &mut [u8]) {
-    sheet.fill(0xee);
-}
+    fn check(&self, rt: &impl Print) -> io::Result<()> {
+        let c = check(self.image, self.sheet.len());
+        print!(rt; "{}", c.progress.refusal)
+    }
 
-// The refusal, what the session's display has, and the sheet afterwards.
-fn run_open(
-    rt: &impl Print,
-    image: &[u8],
-    sheet: &mut [u8],
-    columns: u8,
-    lines: u8,
-) -> io::Result<()> {
-    fill(&mut *sheet);
-    let opened = open(image, &mut *sheet, columns, lines);
-    let session = opened.session;
-    print!(rt; "{} {}x{} ", opened.refusal, session.columns, session.lines)?;
-    print!(rt; "{}", Hex(sheet))
+    fn text(&self, rt: &impl Print) -> io::Result<()> {
+        let place = ImagePlace(self.place as usize);
+        let mut refusal = 0;
+        let text = option_text(
+            self.image,
+            self.sheet,
+            place,
+            self.item as usize,
+            &mut refusal,
+        );
+        print!(rt; "{refusal} {}", Hex(text))
+    }
+
+    // Opens the image on a sheet of bytes 0xEE.
+    fn opened(&mut self) -> Opened {
+        let (columns, lines) = (self.columns(), self.lines());
+        self.sheet.fill(UNWRITTEN);
+        open(self.image, self.sheet, columns, lines)
+    }
+
+    // The refusal, what the session's display has, and the sheet afterwards.
+    fn open(&mut self, rt: &impl Print) -> io::Result<()> {
+        let opened = self.opened();
+        let Session { columns, lines, .. } = opened.session;
+        print!(rt; "{} {columns}x{lines} {}", opened.refusal, Hex(self.sheet))
+    }
+
+    // What Draw answers on a session with a picture of so many bytes: the refusal, the edit cursor, and the
+    // picture afterwards.
+    fn print_picture(&self, rt: &impl Print, session: Session, length: usize) -> io::Result<()> {
+        let mut picture = [UNWRITTEN; PICTURE];
+        if length > PICTURE {
+            return Ok(());
+        }
+        let drawn = draw(self.image, self.sheet, session, &mut picture[..length]);
+        print!(rt; "{} ", drawn.refusal)?;
+        print_cursor(rt, drawn.cursor)?;
+        print!(rt; " {}", Hex(&picture[..length]))
+    }
+
+    // The input of Draw goes on: the sheet's bytes, the picture's length in two bytes, the session.
+    fn draw(&mut self, rt: &(impl Input + Print)) -> io::Result<()> {
+        read_full(rt, self.sheet)?;
+        let length = read_word(rt)? as usize;
+        let session = read_given(rt)?;
+        self.print_picture(rt, session, length)
+    }
 }
 
 fn print_cursor(rt: &impl Print, cursor: Option<EditCursor>) -> io::Result<()> {
@@ -101,129 +172,49 @@ fn print_cursor(rt: &impl Print, cursor: Option<EditCursor>) -> io::Result<()> {
     }
 }
 
-fn print_drawn(rt: &impl Print, refusal: u8, cursor: Option<EditCursor>, picture: &[u8]) -> io::Result<()> {
-    print!(rt; "{refusal} ")?;
-    print_cursor(rt, cursor)?;
-    print!(rt; " {}", Hex(picture))
-}
-
-// The refusal, the edit cursor, and the picture afterwards.
-fn run_drawn(
-    rt: &impl Print,
-    image: &[u8],
-    sheet: &[u8],
-    session: Session,
-    picture: &mut [u8],
-) -> io::Result<()> {
-    fill(&mut *picture);
-    let drawn = draw(image, sheet, session, &mut *picture);
-    print_drawn(rt, drawn.refusal, drawn.cursor, picture)
-}
-
-// The same on the start of a picture.
-fn run_drawn_on(
-    rt: &impl Print,
-    image: &[u8],
-    sheet: &[u8],
-    session: Session,
-    picture: &mut [u8],
-    length: usize,
-) -> io::Result<()> {
-    if length <= picture.len() {
-        run_drawn(rt, image, sheet, session, &mut picture[..length])?;
-    }
-    Ok(())
-}
-
-// The input of Draw goes on: the sheet's bytes, the picture's length in two bytes, the session.
-fn run_draw(rt: &(impl Input + Print), image: &[u8], sheet: &mut [u8]) -> io::Result<()> {
-    read_full(rt, &mut *sheet)?;
-    let length = read_number(rt)?;
-    let session = read_given(rt)?;
-    let mut picture = [0u8; PICTURE];
-    run_drawn_on(rt, image, sheet, session, &mut picture, length)
-}
-
-// Runs an operation on image and sheet; Open, a list of events and a record take columns and lines in place
-// of place and item, and recording takes events and room in place of image and sheet.
-fn run(
-    rt: &(impl Input + Print),
-    op: u8,
-    image: &[u8],
-    sheet: &mut [u8],
-    place: usize,
-    item: usize,
-) -> io::Result<()> {
-    let columns = (place % 256) as u8;
-    let lines = (item % 256) as u8;
-    match op {
-        CHECK => run_check(rt, image, sheet),
-        TEXT => run_text(rt, image, sheet, place, item),
-        OPEN => run_open(rt, image, sheet, columns, lines),
-        DRAW => run_draw(rt, image, sheet),
-        PLAY => playing::run_play(rt, image, sheet, columns, lines),
-        STEP => playing::run_step(rt, image, sheet),
-        MARK => marking::run_mark(rt, image, sheet),
-        RECORD => recording::run_record(rt, image, sheet),
-        REPLAY => recording::run_replay(rt, image, sheet, columns, lines),
-        _ => Ok(()),
-    }
-}
-
-// The same on the starts of image and sheet.
-fn run_on(
-    rt: &(impl Input + Print),
-    op: u8,
-    image: &[u8],
-    length: usize,
-    sheet: &mut [u8],
-    room: usize,
-    place: usize,
-    item: usize,
-) -> io::Result<()> {
-    if length <= image.len() && room <= sheet.len() {
-        run(rt, op, &image[..length], &mut sheet[..room], place, item)?;
-    }
-    Ok(())
-}
-
 // One case: its operation, the length of its name and the name; lengths of image and sheet, place and item,
-// two bytes each; the image. False at the end of the input.
-fn run_case(rt: &(impl Input + Print), image: &mut [u8], sheet: &mut [u8]) -> io::Result<bool> {
+// two bytes each; the image. False at the end of the input. The cases share the room for image and sheet: an
+// input that ends too soon leaves in it what was there.
+fn run_case(
+    rt: &(impl Input + Print + AllocGlobal),
+    image: &mut [u8; ROOM],
+    sheet: &mut [u8; ROOM],
+) -> io::Result<bool> {
     let mut head = [0u8; 2];
-    let got = read_full(rt, &mut head)?;
-    if got < 2 {
+    if !read_full(rt, &mut head)? {
         return Ok(false);
     }
-    let count = byte_at(&head, 1) as usize;
-    read_start(rt, &mut *image, count)?;
-    write_start(rt, image, count)?;
+    let [number, name_length] = head;
+    let name = &mut image[..name_length as usize];
+    read_full(rt, name)?;
+    rt.write_all(name)?;
     print!(rt; ": ")?;
-    let length = read_number(rt)?;
-    let room = read_number(rt)?;
-    let place = read_number(rt)?;
-    let item = read_number(rt)?;
-    read_start(rt, &mut *image, length)?;
-    run_on(
-        rt,
-        byte_at(&head, 0),
-        image,
-        length,
-        &mut *sheet,
-        room,
-        place,
-        item,
-    )?;
+    let length = read_word(rt)? as usize;
+    let room = read_word(rt)? as usize;
+    let place = read_word(rt)?;
+    let item = read_word(rt)?;
+    let image = &mut image[..length];
+    read_full(rt, image)?;
+    if let Ok(op) = Operation::try_from(number) {
+        let mut case = Case {
+            image,
+            sheet: &mut sheet[..room],
+            place,
+            item,
+        };
+        case.run(rt, op)?;
+    }
     println!(rt)?;
     Ok(true)
 }
 
-// Runs the cases one by one; image and sheet are room for those of a case.
-pub fn run_cases(rt: &(impl Input + Print), image: &mut [u8], sheet: &mut [u8]) -> io::Result<()> {
+// Runs the cases one by one.
+pub fn run_cases(rt: &(impl Input + Print + AllocGlobal)) -> io::Result<()> {
+    let mut image = [0u8; ROOM];
+    let mut sheet = [0u8; ROOM];
     for _ in 0..MOST {
-        let more = run_case(rt, &mut *image, &mut *sheet)?;
-        if !more {
-            return Ok(());
+        if !run_case(rt, &mut image, &mut sheet)? {
+            break;
         }
     }
     Ok(())

@@ -6,26 +6,13 @@ use session_bytes::read::read_session;
 use std::io;
 use std::io::Read;
 
-// Reads to the start of a buffer until it is full or the input ends; answers how many bytes came.
-pub fn read_full(rt: &impl Input, buffer: &mut [u8]) -> io::Result<usize> {
-    let mut input = rt.reader();
-    let mut count = 0;
-    while count < buffer.len() {
-        let more = input.read(&mut buffer[count..])?;
-        if more == 0 {
-            return Ok(count);
-        }
-        count += more;
+// Fills a buffer from the input; false where the input ends before, and the rest of the buffer stays.
+pub fn read_full(rt: &impl Input, buffer: &mut [u8]) -> io::Result<bool> {
+    match rt.reader().read_exact(buffer) {
+        Ok(()) => Ok(true),
+        Err(error) if error.kind() == io::ErrorKind::UnexpectedEof => Ok(false),
+        Err(error) => Err(error),
     }
-    Ok(count)
-}
-
-// Reads so many bytes of the input to the start of a buffer that has room for them.
-pub fn read_start(rt: &impl Input, buffer: &mut [u8], count: usize) -> io::Result<()> {
-    if count <= buffer.len() {
-        read_full(rt, &mut buffer[..count])?;
-    }
-    Ok(())
 }
 
 // Two bytes of the input as a number.
@@ -35,8 +22,15 @@ pub fn read_word(rt: &impl Input) -> io::Result<u16> {
     Ok(word_at(&bytes, 0))
 }
 
-pub fn read_number(rt: &impl Input) -> io::Result<usize> {
-    Ok(read_word(rt)? as usize)
+// The bytes of a list, with their count before them. A list of more than so many is not read, and is empty.
+pub fn read_list(rt: &(impl Input + AllocGlobal), most: usize) -> io::Result<Vec<u8>> {
+    let count = read_word(rt)? as usize;
+    if count > most {
+        return Ok(Vec::new(rt.alloc()));
+    }
+    let mut bytes = vec![in rt.alloc(); 0u8; count]?;
+    read_full(rt, &mut bytes)?;
+    Ok(bytes)
 }
 
 // The session that the input gives, as `session_bytes` lays it out.

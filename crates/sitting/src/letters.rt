@@ -1,150 +1,94 @@
 // The keys of a sitting: letters that stand for the handset's keys, read one by one, played and noted. A
 // line's end shows the picture.
-use crate::show::show;
-use console::events::{say_answer, say_key};
+use console::events::{Answered, Key};
 use console::file::fail;
-use console::words::say;
 use handset::event::event;
 use session::session::Session;
 use std::io;
 use std::io::Read;
 
 // The most bytes of keys that are played.
-pub const MOST: usize = 65536;
-
-// What is no key.
-const NONE: u8 = 255;
+const MOST: usize = 65536;
 
 const NEWLINE: u8 = b'\n';
 
-// The next byte of the keys; none at their end.
-fn next_key(keys: &mut impl Read) -> io::Result<Option<u8>> {
-    let mut byte = [0u8; 1];
-    if keys.read(&mut byte)? == 0 {
-        return Ok(None);
-    }
-    Ok(Some(byte[0]))
-}
-
-// The event that a letter stands for.
-fn event_of(letter: u8) -> u8 {
+// The event that a letter stands for; none where it is no key.
+fn event_of(letter: u8) -> Option<u8> {
     match letter {
-        b'0'..=b'9' => letter - b'0',
-        b'.' => Session::POINT,
-        b'u' => Session::UP,
-        b'd' => Session::DOWN,
-        b'l' => Session::LEFT,
-        b'r' => Session::RIGHT,
-        b'e' => Session::ENTER,
-        b's' => Session::SECOND,
-        _ => NONE,
+        b'0'..=b'9' => Some(letter - b'0'),
+        b'.' => Some(Session::POINT),
+        b'u' => Some(Session::UP),
+        b'd' => Some(Session::DOWN),
+        b'l' => Some(Session::LEFT),
+        b'r' => Some(Session::RIGHT),
+        b'e' => Some(Session::ENTER),
+        b's' => Some(Session::SECOND),
+        _ => None,
     }
 }
 
-// Plays an event, says what was pressed and answered, and hands back the session that comes of it.
-fn step(
-    out: &impl Print,
-    image: &[u8],
-    sheet: &mut [u8],
-    session: Session,
-    number: u8,
-) -> io::Result<Session> {
-    let stepped = event(image, &mut *sheet, session, number);
-    let answer = stepped.answer;
-    say_key(out, number)?;
-    say_answer(out, answer.number())?;
-    Ok(stepped.session)
+// A sitting under way: the sheet and the session that the keys so far have left, and their events.
+#[derive(Drop)]
+pub struct Sitting<'a> {
+    pub image: &'a [u8],
+    pub sheet: Vec<u8>,
+    pub session: Session,
+    pub events: Vec<u8>,
 }
 
-// Plays a letter of the keys, and hands back the session that comes of it.
-fn play(
-    out: &impl Print,
-    image: &[u8],
-    sheet: &mut [u8],
-    session: Session,
-    letter: u8,
-) -> io::Result<Session> {
-    if letter == NEWLINE {
-        show(out, image, sheet, session)?;
-        return Ok(session);
+impl Sitting<'_> {
+    // Plays an event, and says what was pressed and answered.
+    fn step(&mut self, out: &impl Print, number: u8) -> io::Result<()> {
+        let stepped = event(self.image, &mut self.sheet, self.session, number);
+        self.session = stepped.session;
+        println!(out; "{}: {}", Key(number), Answered(stepped.answer.number()))
     }
-    let number = event_of(letter);
-    if number == NONE {
-        return Ok(session);
-    }
-    step(out, image, &mut *sheet, session, number)
-}
 
-// Notes the event that a letter stands for, after so many in a list; answers how many there are then.
-fn note(events: &mut [u8], count: usize, letter: u8) -> usize {
-    let number = event_of(letter);
-    if number == NONE {
-        return count;
+    // Plays a letter of the keys, and notes its event.
+    fn play(&mut self, out: &impl Print, letter: u8) -> io::Result<()> {
+        if letter == NEWLINE {
+            return self.show(out);
+        }
+        if let Some(number) = event_of(letter) {
+            self.step(out, number)?;
+            self.events.push(number)?;
+        }
+        Ok(())
     }
-    if count < events.len() {
-        events[count] = number;
-        return count + 1;
-    }
-    count
-}
 
-// The picture at the end of keys whose last line has no end.
-fn end(
-    out: &impl Print,
-    image: &[u8],
-    sheet: &[u8],
-    session: Session,
-    ended: bool,
-) -> io::Result<()> {
-    if !ended {
-        show(out, image, sheet, session)?;
+    // The picture at the end of keys whose last line has no end.
+    fn end(&self, out: &impl Print, last: u8) -> io::Result<()> {
+        if last != NEWLINE {
+            self.show(out)?;
+        }
+        Ok(())
     }
-    Ok(())
-}
 
-// Says so where keys are left.
-fn say_rest(out: &impl Print, keys: &mut impl Read) -> io::Result<()> {
-    match next_key(keys) {
-        Ok(Some(_)) => say(
-            out,
-            b"more than 65,536 bytes of keys: the rest is not played\n",
-        ),
-        _ => Ok(()),
-    }
-}
-
-// Plays the keys, each on the session and sheet that the one before it left. Their events go to the start of
-// a lent list; answers how many they are.
-pub fn play_all(
-    rt: &(impl Print + Eprint + Alloc),
-    image: &[u8],
-    sheet: &mut [u8],
-    start: Session,
-    keys: &mut impl Read,
-    events: &mut [u8],
-) -> io::Result<usize> {
-    let mut session = start;
-    let mut count = 0;
-    let mut ended = true;
-    for _ in 0..MOST {
-        match next_key(keys) {
-            Ok(Some(letter)) => {
-                session = play(rt, image, &mut *sheet, session, letter)?;
-                count = note(&mut *events, count, letter);
-                ended = letter == NEWLINE;
-            }
-            Ok(None) => {
-                end(rt, image, sheet, session, ended)?;
-                return Ok(count);
-            }
-            Err(error) => {
-                end(rt, image, sheet, session, ended)?;
-                fail(rt, "the keys", error)?;
-                return Ok(count);
+    // Plays the keys one by one, and says so where some are left.
+    pub fn play_all(
+        &mut self,
+        rt: &(impl Print + Eprint + Alloc),
+        keys: impl Read + Drop,
+    ) -> io::Result<()> {
+        let mut letters = keys.bytes();
+        let mut last = NEWLINE;
+        for _ in 0..MOST {
+            match letters.next() {
+                Some(Ok(letter)) => {
+                    self.play(rt, letter)?;
+                    last = letter;
+                }
+                Some(Err(error)) => {
+                    self.end(rt, last)?;
+                    return fail(rt, "the keys", error);
+                }
+                None => return self.end(rt, last),
             }
         }
+        self.end(rt, last)?;
+        if let Some(Ok(_)) = letters.next() {
+            println!(rt; "more than 65,536 bytes of keys: the rest is not played")?;
+        }
+        Ok(())
     }
-    end(rt, image, sheet, session, ended)?;
-    say_rest(rt, keys)?;
-    Ok(count)
 }

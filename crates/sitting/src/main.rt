@@ -10,34 +10,39 @@ mod show;
 
 use cmf::image::Image;
 use console::display::{COLUMNS, LINES};
-use console::file::{IMAGE_ROOM, Source, found_in, is_given, open_named, read_named};
-use console::words::say_refusal;
+use console::file::{IMAGE_ROOM, Source, is_given, open_named, read_named};
+use console::words::Refusal;
 use handset::open::open;
+use letters::Sitting;
 use std::env::Env;
 use std::fs::Files;
 use std::io;
 use std::io::Read;
 
-const USAGE: &[u8] = b"usage: sitting IMAGE [KEYS [RECORD]]\n";
+const USAGE: &str = "usage: sitting IMAGE [KEYS [RECORD]]";
 
 // Plays keys on an image, and prints what comes of it.
 fn sit(
     rt: &(impl Files + Env + Print + Eprint + AllocGlobal),
     image: &[u8],
-    keys: &mut impl Read,
+    keys: impl Read + Drop,
 ) -> io::Result<()> {
-    let mut sheet = [0u8; Image::MAX_SHEET];
-    let mut events = [0u8; letters::MOST];
+    let mut sheet = vec![in rt.alloc(); 0u8; Image::MAX_SHEET]?;
     let opened = open(image, &mut sheet, COLUMNS, LINES);
-    let session = opened.session;
     if opened.refusal != 0 {
-        say_refusal(rt, opened.refusal)?;
+        println!(rt; "{}", Refusal(opened.refusal))?;
         return fields::print_reach(rt, image, sheet.len(), opened.refusal);
     }
-    show::show(rt, image, &sheet, session)?;
-    let count = letters::play_all(rt, image, &mut sheet, session, keys, &mut events)?;
-    fields::print_fields(rt, image, &sheet)?;
-    recorder::record_first(rt, &events, count, USAGE)
+    let mut sitting = Sitting {
+        image,
+        sheet,
+        session: opened.session,
+        events: Vec::new(rt.alloc()),
+    };
+    sitting.show(rt)?;
+    sitting.play_all(rt, keys)?;
+    fields::print_fields(rt, image, &sitting.sheet)?;
+    recorder::record_events(rt, &sitting.events, USAGE)
 }
 
 // The keys come from the file that the second argument names, or from standard input without one or for `-`.
@@ -51,13 +56,11 @@ fn keys_from<R: Files + Env + Input + Eprint + AllocGlobal>(
 }
 
 fn main(rt: HostRuntime) -> io::Result<()> {
-    let mut image = [0u8; IMAGE_ROOM];
-    let found = read_named(&rt, 1, &mut image, USAGE)?;
-    if !found.whole {
+    let Some(image) = read_named(&rt, 1, IMAGE_ROOM, USAGE)? else {
         return Ok(());
-    }
-    match keys_from(&rt)? {
-        Some(mut keys) => sit(&rt, found_in(&image, found), &mut keys),
-        None => Ok(()),
-    }
+    };
+    let Some(keys) = keys_from(&rt)? else {
+        return Ok(());
+    };
+    sit(&rt, &image, keys)
 }

@@ -1,6 +1,6 @@
 // The record of a sitting, in the file that the third argument names.
 use console::file::{is_given, write_named};
-use console::words::say_refusal;
+use console::words::Refusal;
 use record::recording::{MAX_EVENTS, record};
 use std::env::Env;
 use std::fs::Files;
@@ -12,42 +12,20 @@ const RECORD: usize = 3;
 // The bytes of the largest record: one for the form, three for the number of events, and one for each event.
 const ROOM: usize = 4 + MAX_EVENTS;
 
-// Writes the first length bytes of a room.
-fn write_first(
-    rt: &(impl Files + Env + Eprint + AllocGlobal),
-    room: &[u8],
-    length: usize,
-    usage: &[u8],
-) -> io::Result<()> {
-    if length <= room.len() {
-        write_named(rt, RECORD, &room[0..length], usage)?;
-    }
-    Ok(())
-}
-
-// Writes a record of events.
-fn write_record(
+// Writes a record of events, if there is a file for it.
+pub fn record_events(
     rt: &(impl Files + Env + Print + Eprint + AllocGlobal),
     events: &[u8],
-    usage: &[u8],
+    usage: &str,
 ) -> io::Result<()> {
-    let mut room = [0u8; ROOM];
+    if !is_given(rt, RECORD) {
+        return Ok(());
+    }
+    let mut room = vec![in rt.alloc(); 0u8; ROOM]?;
     let recorded = record(events, &mut room);
     if recorded.refusal != 0 {
-        return say_refusal(rt, recorded.refusal);
+        return println!(rt; "{}", Refusal(recorded.refusal));
     }
-    write_first(rt, &room, recorded.length, usage)
-}
-
-// Writes a record of the first count of some events, if there is a file for it.
-pub fn record_first(
-    rt: &(impl Files + Env + Print + Eprint + AllocGlobal),
-    events: &[u8],
-    count: usize,
-    usage: &[u8],
-) -> io::Result<()> {
-    if is_given(rt, RECORD) && count <= events.len() {
-        write_record(rt, &events[0..count], usage)?;
-    }
-    Ok(())
+    room.truncate(recorded.length);
+    write_named(rt, RECORD, &room, usage)
 }

@@ -6,8 +6,8 @@ mod tell;
 
 use cmf::image::Image;
 use console::display::{COLUMNS, LINES};
-use console::file::{IMAGE_ROOM, found_in, read_named};
-use console::words::say_refusal;
+use console::file::{IMAGE_ROOM, read_named};
+use console::words::Refusal;
 use playback::play::play;
 use record::reading::check_record;
 use record::recording::MAX_EVENTS;
@@ -17,16 +17,12 @@ use std::io;
 // more, so that a longer file is refused.
 const RECORD_ROOM: usize = 3 * (MAX_EVENTS + 2) + 1;
 
-const USAGE: &[u8] = b"usage: transcript IMAGE RECORD\n";
+const USAGE: &str = "usage: transcript IMAGE RECORD";
 
 // The events of a record that was not refused: the bytes from the first of them on.
-fn events_of<'a>(recorded: &'a [u8]) -> &'a [u8] {
+fn events_of(recorded: &[u8]) -> &[u8] {
     let checked = check_record(recorded);
-    let start = checked.start;
-    if start <= recorded.len() {
-        return &recorded[start..];
-    }
-    &recorded[0..0]
+    recorded.get(checked.start..).unwrap_or(&[])
 }
 
 // Plays a record on an image, and tells what was pressed.
@@ -35,25 +31,17 @@ fn transcribe(out: &impl Print, image: &[u8], recorded: &[u8]) -> io::Result<()>
     let mut answers = [0u32; MAX_EVENTS];
     let replayed = play(image, &mut sheet, COLUMNS, LINES, recorded, &mut answers);
     if replayed.refusal != 0 {
-        return say_refusal(out, replayed.refusal);
+        return println!(out; "{}", Refusal(replayed.refusal));
     }
     tell::tell(out, events_of(recorded), &answers)
 }
 
 fn main(rt: HostRuntime) -> io::Result<()> {
-    let mut image = [0u8; IMAGE_ROOM];
-    let mut recorded = [0u8; RECORD_ROOM];
-    let image_found = read_named(&rt, 1, &mut image, USAGE)?;
-    if !image_found.whole {
+    let Some(image) = read_named(&rt, 1, IMAGE_ROOM, USAGE)? else {
         return Ok(());
-    }
-    let record_found = read_named(&rt, 2, &mut recorded, USAGE)?;
-    if !record_found.whole {
+    };
+    let Some(recorded) = read_named(&rt, 2, RECORD_ROOM, USAGE)? else {
         return Ok(());
-    }
-    transcribe(
-        &rt,
-        found_in(&image, image_found),
-        found_in(&recorded, record_found),
-    )
+    };
+    transcribe(&rt, &image, &recorded)
 }
