@@ -29,7 +29,7 @@ impl Format {
     pub(crate) fn signs(self) -> u8
         ensures { result ≡ signs_of self }
     {
-        if self.signed { 1 } else { 0 }
+        u8::from(self.signed)
     }
 
     pub(crate) fn digits_in(self) -> u8
@@ -228,7 +228,7 @@ impl Numeral {
     fn sign(self, x: u64) -> u32
         ensures { result ≡ sign_of self x }
     {
-        if x <= self.above { 1 } else { 0 }
+        u32::from(x <= self.above)
     }
 
     // The number as a working copy.

@@ -32,11 +32,7 @@ impl Value {
     pub fn byte(self, i: usize) -> u32
         ensures { (result ≡ get_or (bytes_of self) i 0) × (result < 256) }
     {
-        if i < self.len() {
-            self.bytes[i] as u32
-        } else {
-            0
-        }
+        self.as_bytes().get(i).copied().unwrap_or(0) as u32
     }
 
     // The number of the bytes, low byte first.

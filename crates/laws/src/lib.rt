@@ -14,7 +14,7 @@ ghost use Rattle.laws.specs.Parts.{put_at};
 pub fn byte_at(s: &[u8], at: usize) -> u8
     ensures { result ≡ byte_at s.now at }
 {
-    if at < s.len() { s[at] } else { 0 }
+    s.get(at).copied().unwrap_or(0)
 }
 
 // The two bytes at a place, low byte first, 0 past the end.
