@@ -125,31 +125,15 @@ pub(crate) fn bits_in(n: u8) -> u8
     n.min(Kind::MAX_BITS)
 }
 
-// The lowest digit to the base 16 or 2.
-fn lowest(base: u64, x: u32) -> u32
-    requires { (base ≡ 16 → ⊥) → base ≡ 2 }
-    ensures { result ≡ x % base }
-{
-    if base == 16 { x % 16 } else { x % 2 }
-}
-
-// What the digits before the lowest show.
-fn before_lowest(base: u64, x: u32) -> u32
-    requires { (base ≡ 16 → ⊥) → base ≡ 2 }
-    ensures { result ≡ x / base }
-{
-    if base == 16 { x / 16 } else { x / 2 }
-}
-
-// Writes count digits of x to the base 16 or 2, the last to start + count - 1.
-fn write_binary(cells: &mut [u32], start: u8, count: u8, base: u64, x: u32)
-    requires { ((base ≡ 16 → ⊥) → base ≡ 2) × (start + count ≤ length cells.old) }
-    ensures { cells.new ≡ over cells.old start (digits_of base count x) }
+// Writes count digits of x to a base that is a power of 2, the last to start + count - 1.
+fn write_binary<const BASE: u32>(cells: &mut [u32], start: u8, count: u8, x: u32)
+    requires { (0 < BASE) × (start + count ≤ length cells.old) }
+    ensures { cells.new ≡ over cells.old start (digits_of BASE count x) }
 {
     let mut rest = x;
     for left in (0..count).rev() {
-        cells[start as usize + left as usize] = lowest(base, rest);
-        rest = before_lowest(base, rest);
+        cells[start as usize + left as usize] = rest % BASE;
+        rest /= BASE;
     }
 }
 
@@ -171,10 +155,10 @@ fn write_digits(cells: &mut [u32], start: u8, count: u8, base: u64, x: u32)
     requires { ((base ≡ 10 → ⊥) → (base ≡ 16 → ⊥) → base ≡ 2) × (start + count ≤ length cells.old) }
     ensures { cells.new ≡ over cells.old start (digits_of base count x) }
 {
-    if base == 10 {
-        write_decimal(cells, start, count, x);
-    } else {
-        write_binary(cells, start, count, base, x);
+    match base {
+        10 => write_decimal(cells, start, count, x),
+        16 => write_binary::<16>(cells, start, count, x),
+        _ => write_binary::<2>(cells, start, count, x),
     }
 }
 
