@@ -11,7 +11,6 @@ use mir.Syntax.{w32}
 use Rattle.laws.specs.Digits.{number_from}
 use Rattle.laws.proofs.Numerals.{number_turn, number_bound, turn_fits}
 use Rattle.field.proofs.numeral.read_digits.Goals as goal
-use Rattle.field.proofs.numeral.read_digits.Goals.{In-loop-cell}
 
 -- the digits that are read
 length_part : (s n : ℕ) (a : List ℕ) → s + n ≤ length a → length (take (s + n - s) (drop s a)) ≡ n
