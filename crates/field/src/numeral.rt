@@ -1,7 +1,7 @@
 // Numbers in digits: how a number is made up of cells, for every integer format and for switches.
-ghost use Rattle.std.specs.Prelude.{◌≡◌, ◌+◌, ◌-◌, ◌/◌, ◌%◌, ◌^◌, ◌≤◌, ◌<◌, min, length, take, drop};
+ghost use Rattle.std.specs.Prelude.{◌≡◌, ◌+◌, ◌≤◌, ◌<◌, length};
 ghost use Rattle.laws.specs.Choice.{when◌then◌else◌};
-ghost use Rattle.laws.specs.Digits.{digits_of, number_from};
+ghost use Rattle.laws.specs.Digits.{digits_of};
 ghost use Rattle.laws.specs.Overwrite.{over};
 ghost use Rattle.field.specs.Formats.{format_of, signs_of, digits_in, base_of, limit_of, half_of, top_of};
 ghost use Rattle.field.specs.Formats.{numeral_of, bits_in, bits_of};
@@ -165,19 +165,6 @@ fn write_digits(cells: &mut [u32], start: u8, count: u8, base: u64, x: u32)
     }
 }
 
-// The number that count digits from start on show.
-fn read_digits(w: Work, start: u8, count: u8, base: u64) -> u64
-    requires { (2 ≤ base) × (start + count ≤ 32) × (base ^ count ≤ 4294967296) }
-    ensures { result ≡ number_from base 0 (take count (drop start w.cells)) }
-{
-    let start = start as usize;
-    let mut n = 0;
-    for cell in &w.cells[start..start + count as usize] {
-        n = n * base + *cell as u64;
-    }
-    n
-}
-
 impl Numeral {
     // A switch: a number to the base 2 in four bytes.
     pub fn of_bits(n: u8) -> Self
@@ -233,11 +220,17 @@ impl Numeral {
         Work { cells, at: 0 }
     }
 
+    // The number that the digit cells show.
     fn shown_by(self, w: Work) -> u64
         requires { Sound self }
         ensures { result ≡ shown_by self w.cells }
     {
-        read_digits(w, self.signs, self.digits, self.base)
+        let start = self.signs as usize;
+        let mut n = 0;
+        for cell in &w.cells[start..start + self.digits as usize] {
+            n = n * self.base + *cell as u64;
+        }
+        n
     }
 
     fn minus(self, w: Work) -> bool
