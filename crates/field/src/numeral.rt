@@ -1,7 +1,7 @@
 // Numbers in digits: how a number is made up of cells, for every integer format and for switches.
-ghost use Rattle.std.specs.Prelude.{◌≡◌, ◌+◌, ◌-◌, ◌/◌, ◌%◌, ◌^◌, ◌≤◌, ◌<◌, min, length, take, drop};
+ghost use Rattle.std.specs.Prelude.{◌≡◌, ◌+◌, ◌≤◌, ◌<◌, length};
 ghost use Rattle.laws.specs.Choice.{when◌then◌else◌};
-ghost use Rattle.laws.specs.Digits.{digits_of, number_from};
+ghost use Rattle.laws.specs.Digits.{digits_of};
 ghost use Rattle.laws.specs.Overwrite.{over};
 ghost use Rattle.field.specs.Formats.{format_of, signs_of, digits_in, base_of, limit_of, half_of, top_of};
 ghost use Rattle.field.specs.Formats.{numeral_of, bits_in, bits_of};
@@ -29,7 +29,7 @@ impl Format {
     pub(crate) fn signs(self) -> u8
         ensures { result ≡ signs_of self }
     {
-        if self.signed { 1 } else { 0 }
+        u8::from(self.signed)
     }
 
     pub(crate) fn digits_in(self) -> u8
@@ -89,25 +89,28 @@ impl Format {
     }
 }
 
-// The ranges that `numeral` gives, by an integer's code: how far each goes above 0, and how far below it.
-const ABOVE: [usize; 11] = [99, 255, 255, 99, 127, 999, 9999, 65535, 65535, 999, 9999];
-
-const BELOW: [usize; 11] = [0, 0, 0, 99, 128, 0, 0, 0, 0, 999, 9999];
-
-// How many numbers the bytes of an integer's code hold.
-fn code_limit(code: usize) -> usize
-    requires { code ≤ 0x0a }
-    ensures { result ≡ limit_of (format_of code) }
-{
-    if code < 5 { 256 } else { 65536 }
-}
+// What `numeral` gives by an integer's code: how far the range goes above 0, how far below it, and how many
+// numbers the bytes hold.
+const RANGES: [(usize, usize, usize); 11] = [
+    (99, 0, 256),
+    (255, 0, 256),
+    (255, 0, 256),
+    (99, 99, 256),
+    (127, 128, 256),
+    (999, 0, 65536),
+    (9999, 0, 65536),
+    (65535, 0, 65536),
+    (65535, 0, 65536),
+    (999, 999, 65536),
+    (9999, 9999, 65536),
+];
 
 fn code_spans(code: usize, x: usize) -> bool
     requires { code ≤ 0x0a }
     ensures { result ≡ spans (numeral_of (format_of code)) x }
 {
-    let limit = code_limit(code);
-    x <= ABOVE[code] || (limit - BELOW[code] <= x && x < limit)
+    let (above, below, limit) = RANGES[code];
+    x <= above || (limit - below <= x && x < limit)
 }
 
 // Whether a number is in the range of an integer's code, for readers that make no record of a field. A code
@@ -125,31 +128,15 @@ pub(crate) fn bits_in(n: u8) -> u8
     n.min(Kind::MAX_BITS)
 }
 
-// The lowest digit to the base 16 or 2.
-fn lowest(base: u64, x: u32) -> u32
-    requires { (base ≡ 16 → ⊥) → base ≡ 2 }
-    ensures { result ≡ x % base }
-{
-    if base == 16 { x % 16 } else { x % 2 }
-}
-
-// What the digits before the lowest show.
-fn before_lowest(base: u64, x: u32) -> u32
-    requires { (base ≡ 16 → ⊥) → base ≡ 2 }
-    ensures { result ≡ x / base }
-{
-    if base == 16 { x / 16 } else { x / 2 }
-}
-
-// Writes count digits of x to the base 16 or 2, the last to start + count - 1.
-fn write_binary(cells: &mut [u32], start: u8, count: u8, base: u64, x: u32)
-    requires { ((base ≡ 16 → ⊥) → base ≡ 2) × (start + count ≤ length cells.old) }
-    ensures { cells.new ≡ over cells.old start (digits_of base count x) }
+// Writes count digits of x to a base that is a power of 2, the last to start + count - 1.
+fn write_binary<const BASE: u32>(cells: &mut [u32], start: u8, count: u8, x: u32)
+    requires { (0 < BASE) × (start + count ≤ length cells.old) }
+    ensures { cells.new ≡ over cells.old start (digits_of BASE count x) }
 {
     let mut rest = x;
     for left in (0..count).rev() {
-        cells[start as usize + left as usize] = lowest(base, rest);
-        rest = before_lowest(base, rest);
+        cells[start as usize + left as usize] = rest % BASE;
+        rest /= BASE;
     }
 }
 
@@ -171,24 +158,11 @@ fn write_digits(cells: &mut [u32], start: u8, count: u8, base: u64, x: u32)
     requires { ((base ≡ 10 → ⊥) → (base ≡ 16 → ⊥) → base ≡ 2) × (start + count ≤ length cells.old) }
     ensures { cells.new ≡ over cells.old start (digits_of base count x) }
 {
-    if base == 10 {
-        write_decimal(cells, start, count, x);
-    } else {
-        write_binary(cells, start, count, base, x);
+    match base {
+        10 => write_decimal(cells, start, count, x),
+        16 => write_binary::<16>(cells, start, count, x),
+        _ => write_binary::<2>(cells, start, count, x),
     }
-}
-
-// The number that count digits from start on show.
-fn read_digits(w: Work, start: u8, count: u8, base: u64) -> u64
-    requires { (2 ≤ base) × (start + count ≤ 32) × (base ^ count ≤ 4294967296) }
-    ensures { result ≡ number_from base 0 (take count (drop start w.cells)) }
-{
-    let start = start as usize;
-    let mut n = 0;
-    for cell in &w.cells[start..start + count as usize] {
-        n = n * base + *cell as u64;
-    }
-    n
 }
 
 impl Numeral {
@@ -228,7 +202,7 @@ impl Numeral {
     fn sign(self, x: u64) -> u32
         ensures { result ≡ sign_of self x }
     {
-        if x <= self.above { 1 } else { 0 }
+        u32::from(x <= self.above)
     }
 
     // The number as a working copy.
@@ -246,11 +220,17 @@ impl Numeral {
         Work { cells, at: 0 }
     }
 
+    // The number that the digit cells show.
     fn shown_by(self, w: Work) -> u64
         requires { Sound self }
         ensures { result ≡ shown_by self w.cells }
     {
-        read_digits(w, self.signs, self.digits, self.base)
+        let start = self.signs as usize;
+        let mut n = 0;
+        for cell in &w.cells[start..start + self.digits as usize] {
+            n = n * self.base + *cell as u64;
+        }
+        n
     }
 
     fn minus(self, w: Work) -> bool

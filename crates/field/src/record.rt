@@ -29,16 +29,14 @@ impl Field {
     pub fn begin(self, sheet: &[u8]) -> Work
         ensures { result ≡ begun self sheet.now }
     {
-        let kind = self.kind;
-        let value = load(sheet, self.sheet, profile_of(kind).bytes);
-        Work::start(kind, value, self.default)
+        let value = load(sheet, self.sheet, profile_of(self.kind).bytes);
+        Work::start(self.kind, value, self.default)
     }
 
     // Stores what the cells show, where the last ENTER said that it can be stored.
     pub fn finish(self, sheet: &mut [u8], work: Work)
         ensures { sheet.new ≡ finished_in self work sheet.old }
     {
-        let kind = self.kind;
-        put(sheet, self.sheet, work.finish(kind));
+        put(sheet, self.sheet, work.finish(self.kind));
     }
 }

@@ -32,11 +32,7 @@ impl Value {
     pub fn byte(self, i: usize) -> u32
         ensures { (result ≡ get_or (bytes_of self) i 0) × (result < 256) }
     {
-        if i < self.len() {
-            self.bytes[i] as u32
-        } else {
-            0
-        }
+        self.as_bytes().get(i).copied().unwrap_or(0) as u32
     }
 
     // The number of the bytes, low byte first.
@@ -50,12 +46,14 @@ impl Value {
     pub fn from_number(count: u8, x: u64) -> Self
         ensures { result ≡ value_from count x }
     {
-        let a = if_below(0, count, (x % 256) as u8);
-        let b = if_below(1, count, (x / 256 % 256) as u8);
-        let c = if_below(2, count, (x / 65536 % 256) as u8);
-        let d = if_below(3, count, (x / 16777216 % 256) as u8);
+        let [a, b, c, d, ..] = x.to_le_bytes();
         Value {
-            bytes: [a, b, c, d],
+            bytes: [
+                if_below(0, count, a),
+                if_below(1, count, b),
+                if_below(2, count, c),
+                if_below(3, count, d),
+            ],
             count,
         }
     }

@@ -66,11 +66,7 @@ impl Work {
     pub fn cell(self, i: usize) -> u64
         ensures { (result ≡ get_or self.cells i 0) × (result < 4294967296) }
     {
-        if i < Work::CELLS {
-            self.cells[i] as u64
-        } else {
-            0
-        }
+        self.cells.get(i).copied().unwrap_or(0) as u64
     }
 
     // The third byte of a time, where it has seconds.

@@ -4,6 +4,7 @@ use mathlib.Core.Path.{◌≡◌, refl, sym, ◌∙◌}
 use mathlib.Core.Bool.{Bool, true, false, false≢true}
 use native.Mathlib.Omega.{arith}
 use borrow.Author.Tests.{eq-eqb, ne_eqb, lt-ltb, le-ltb, le-leb, lt-leb, ltb-true, ltb-false}
+use Rattle.std.specs.Int.{from_bool}
 use Rattle.laws.specs.Choice.{when◌then◌else◌, ◌and◌, ◌=?◌, ◌<?◌, ◌≤?◌}
 
 -- a property of a choice: of the first where the test passes, of the second where it fails
@@ -106,3 +107,9 @@ if_min false p q = q
 pub min_when : (n m : ℕ) → min n m ≡ (when n <? m then n else m)
 min_when n m =
     by_test (n <? m) (λ e. let h = ltb-true n m e in rw (if_lt n m n m h) (omega arith)) (λ e. let h = ltb-false n m e in rw (if_ge n m n m h) (omega arith))
+
+-- a test as a number
+pub from_bool_when : (t : Bool) → from_bool t ≡ (when t then 1 else 0)
+unfolding when◌then◌else◌
+from_bool_when true = refl
+from_bool_when false = refl

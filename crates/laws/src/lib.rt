@@ -14,7 +14,7 @@ ghost use Rattle.laws.specs.Parts.{put_at};
 pub fn byte_at(s: &[u8], at: usize) -> u8
     ensures { result ≡ byte_at s.now at }
 {
-    if at < s.len() { s[at] } else { 0 }
+    s.get(at).copied().unwrap_or(0)
 }
 
 // The two bytes at a place, low byte first, 0 past the end.
@@ -22,7 +22,7 @@ pub fn word_at(s: &[u8], at: usize) -> u16
     ensures { result ≡ word_at s.now at }
 {
     if at < s.len() {
-        (byte_at(s, at) as u16) + 256 * (byte_at(s, at + 1) as u16)
+        u16::from_le_bytes([s[at], byte_at(s, at + 1)])
     } else {
         0
     }

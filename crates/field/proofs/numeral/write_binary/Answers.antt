@@ -7,11 +7,10 @@ use Rattle.laws.proofs.Numerals.{digits_turn}
 use Rattle.field.proofs.numeral.write_binary.Goals as goal
 
 pub loop-left-preserved : goal.loop-left-preserved
-loop-left-preserved c = let l = c.loop-left in
-    rw (c.lowest.ensures, c.before_lowest-rest.ensures) (digits_turn _ _ l.left l.rest l.cells c.loop-left-test.true (omega arith)) ∙ l.invariant
+loop-left-preserved g c = let l = c.loop-left in digits_turn _ _ l.left l.rest l.cells c.loop-left-test.true (omega arith) ∙ l.invariant
 
 pub returns : goal.returns
 unfolding digits_of
-returns c = let l = c.loop-left in
+returns g c = let l = c.loop-left in
     let z : l.left ≡ 0 = omega arith in
     sym (over_nil l.cells _) ∙ rw z at l.invariant

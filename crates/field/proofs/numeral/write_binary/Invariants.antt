@@ -5,4 +5,4 @@ use Rattle.laws.specs.Digits.{digits_of}
 use Rattle.field.proofs.numeral.write_binary.Given as goal
 
 abbrev pub invariant-loop-left : goal.invariant-loop-left
-invariant-loop-left l = over l.cells l.start (digits_of l.base l.left l.rest) ≡ over l.initial.cells l.start (digits_of l.base l.count l.x)
+invariant-loop-left g l = over l.cells l.start (digits_of g.row.BASE l.left l.rest) ≡ over l.initial.cells l.start (digits_of g.row.BASE l.count l.x)

@@ -1,13 +1,9 @@
--- Each return is the case of the definition that the tests on its path choose.
-use native.Mathlib.Omega.{arith}
-use Rattle.laws.proofs.Cases.{choices}
+-- A test as a number is a choice of 1 and 0.
+use mathlib.Core.Path.{◌∙◌}
+use Rattle.laws.proofs.Cases.{from_bool_when}
 use Rattle.field.specs.Formats.{signs_of}
 use Rattle.field.proofs.kind.Format.signs.Goals as goal
 
-pub returns-then-self : goal.returns-then-self
+pub returns : goal.returns
 unfolding signs_of
-returns-then-self c = search (choices, arith)
-
-pub returns-else-self : goal.returns-else-self
-unfolding signs_of
-returns-else-self c = search (choices, arith)
+returns c = c.from.ensures ∙ from_bool_when c.args.self.signed

@@ -1,13 +1,9 @@
--- Each return is the case of the definition that the tests on its path choose.
-use native.Mathlib.Omega.{arith}
-use Rattle.laws.proofs.Cases.{choices}
+-- A test as a number is a choice of 1 and 0.
+use mathlib.Core.Path.{◌∙◌}
+use Rattle.laws.proofs.Cases.{from_bool_when}
 use Rattle.field.specs.Cells.{sign_of}
 use Rattle.field.proofs.numeral.Numeral.sign.Goals as goal
 
-pub returns-then-x-self : goal.returns-then-x-self
+pub returns : goal.returns
 unfolding sign_of
-returns-then-x-self c = search (choices, arith)
-
-pub returns-else-x-self : goal.returns-else-x-self
-unfolding sign_of
-returns-else-x-self c = search (choices, arith)
+returns c = c.from.ensures ∙ from_bool_when _

@@ -5,4 +5,4 @@ use Rattle.field.proofs.value.Value.from_number.Goals as goal
 
 pub returns : goal.returns
 unfolding value_from
-returns c = simp (c.if_below-a.ensures, c.if_below-b.ensures, c.if_below-c.ensures, c.if_below-d.ensures, low_four)
+returns c = simp (c.if_below.ensures, c.if_below-2.ensures, c.if_below-3.ensures, c.if_below-4.ensures, c.to_le_bytes.ensures, low_four)
