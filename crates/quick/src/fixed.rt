@@ -4,6 +4,7 @@ ghost use Rattle.std.specs.Prelude.{◌≡◌, true, [], ◌∷◌, ◌+◌, ◌
 ghost use Rattle.laws.specs.Bytes.{byte_at, word_at};
 ghost use Rattle.field.specs.Calendar.{month_end};
 ghost use Rattle.field.specs.Cells.{biased};
+ghost use Rattle.field.specs.Settings.{step_fits, width_fits};
 ghost use Rattle.cmf.specs.Layouts.{Component, counter_settings_at, trigger_at};
 ghost use Rattle.quick.specs.Accept.{Held, Passes};
 
@@ -15,8 +16,7 @@ use cmf::image::Image;
 use field::calendar::month_end;
 use field::kind::{CounterSettings, Kind};
 use field::numeral::is_in_code;
-use field::settings::settings_fit;
-use field::value::value_at;
+use field::settings::counted_cells;
 
 // The number of one byte or of two at a place.
 fn number_in(image: &[u8], at: usize, size: usize) -> usize
@@ -64,6 +64,20 @@ fn counter_settings(image: &[u8], at: usize) -> CounterSettings
     }
 }
 
+// Whether the step of a counter is at least 1, as a signed number.
+fn step_fits(s: CounterSettings) -> bool
+    ensures { result ≡ step_fits s }
+{
+    1 <= s.step && s.step < 32768
+}
+
+// Whether the width of a counter is enough for min and for max.
+fn width_fits(s: CounterSettings) -> bool
+    ensures { result ≡ width_fits s }
+{
+    counted_cells(s.min) <= s.width && counted_cells(s.max) <= s.width
+}
+
 // Where the counter at a place ends.
 fn counter_end(image: &[u8], at: usize) -> Option<usize>
     requires { (at < length image.now) × (byte_at image.now at % 32 ≡ 0x0d) }
@@ -73,8 +87,9 @@ fn counter_end(image: &[u8], at: usize) -> Option<usize>
     if image.len() < end {
         return None;
     }
-    let kind = Kind::Counter(counter_settings(image, at));
-    if !settings_fit(kind, value_at(image, at + 12, 2)) {
+    let s = counter_settings(image, at);
+    let x = biased_in(image, at + 12);
+    if x < s.min || s.max < x || !step_fits(s) || !width_fits(s) {
         return None;
     }
     Some(end)

@@ -14,6 +14,7 @@ fn longest_of(image: &[u8], from: usize, end: usize, count: u8) -> Option<usize>
     requires { (from < length image.now) × (end ≤ length image.now) × (1 ≤ count) }
     ensures { IfSome result (λ longest. Texts image.now count from end longest) }
 {
+    // The first is there, and has none before it to be longer than.
     let first = image[from] as usize;
     let mut at = from + 1 + first;
     let mut most = first;

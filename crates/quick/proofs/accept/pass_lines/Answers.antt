@@ -1,20 +1,11 @@
 -- The run, and one component of another kind, as long as the line goes on.
-use mathlib.Core.Path.{refl, ◌∙◌}
-use Rattle.quick.proofs.Positions.{moves_none, moves_then}
+use mathlib.Core.Path.{◌∙◌}
+use Rattle.quick.proofs.Positions.{moves_then}
 use native.Mathlib.Omega.{arith}
 use Rattle.quick.proofs.accept.pass_lines.Goals as goal
 
-pub loop-s-init : goal.loop-s-init
-loop-s-init c = ((moves_none _ _ _ _ c.requires.head c.requires.inside, c.requires.going), refl)
-
-pub run-plain-requires : goal.run-plain-requires
-run-plain-requires c = record { going = c.loop-s.invariant.0.1; head = c.loop-s.invariant.0.0.inside; inside = c.loop-s.invariant.0.0.fits; marked = omega (arith, c.loop-s.invariant.1, c.requires.marked) }
-
 pub returns-then-plain : goal.returns-then-plain
 returns-then-plain c = (c.if-plain.true, moves_then _ _ c.loop-s.invariant.0.0 c.run-plain.ensures)
-
-pub take_other-requires : goal.take_other-requires
-take_other-requires c = record { going = c.if-plain.false; head = c.run-plain.ensures.inside; inside = c.run-plain.ensures.fits; marked = omega (arith, c.run-plain.auto.marks, c.loop-s.invariant.1, c.requires.marked) }
 
 pub returns-then-s : goal.returns-then-s
 returns-then-s c = (c.if-s.true, moves_then _ _ (moves_then _ _ c.loop-s.invariant.0.0 c.run-plain.ensures) c.in_ok-s.ensures.0)

@@ -1,16 +1,10 @@
 -- A bit that was not set is set.
-use mathlib.Core.Path.{refl, sym}
+use mathlib.Core.Path.{sym}
 use mathlib.Core.Bool.{false≢true}
 use Rattle.quick.specs.Accept.{mark_at}
 use Rattle.quick.proofs.Marks.{one_bit, has_mark, claimed_one}
 use native.Mathlib.Omega.{arith}
 use Rattle.quick.proofs.claim.claim_byte.Goals as goal
-
-pub returns-then-extent-at : goal.returns-then-extent-at
-returns-then-extent-at c = (λ e. absurd (false≢true e), λ _. refl)
-
-pub returns-then-more-word : goal.returns-then-more-word
-returns-then-more-word c = (λ e. absurd (false≢true e), λ _. refl)
 
 pub returns : goal.returns
 unfolding mark_at

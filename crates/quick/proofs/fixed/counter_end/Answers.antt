@@ -1,9 +1,9 @@
--- Its settings are tested as the check tests them.
+-- The tests are those of its settings.
 use mathlib.Core.Path.{refl}
-use Rattle.quick.proofs.FixedFields.{counter_is}
 use Rattle.laws.proofs.Cases.{via}
+use Rattle.quick.proofs.FixedFields.{counter_is}
 use native.Mathlib.Omega.{arith}
 use Rattle.quick.proofs.fixed.counter_end.Goals as goal
 
 pub returns : goal.returns
-returns c = counter_is _ _ _ (omega arith) c.requires.1 refl (rw (c.counter_settings.ensures, c.value_at.ensures) at (via c.settings_fit.ensures c.if-not-settings_fit.false))
+returns c = counter_is _ _ _ (omega arith) _ _ c.requires.1 refl c.counter_settings-s.ensures c.biased_in-x.ensures (omega arith) (omega arith) (via c.step_fits.ensures c.if-not-step_fits.false) (via c.width_fits.ensures c.if-not-width_fits.false)

@@ -5,11 +5,5 @@ use Rattle.cmf.proofs.Heads.{fit_digits}
 use native.Mathlib.Omega.{arith}
 use Rattle.quick.proofs.heads.password_end.Goals as goal
 
-pub overflow_cast-end : goal.overflow_cast-end
-overflow_cast-end c = omega (arith, c.type_inv.image c.args.at)
-
-pub overflow_add-end-2 : goal.overflow_add-end-2
-overflow_add-end-2 c = omega (arith, c.type_inv.image c.args.at)
-
 pub returns : goal.returns
 returns c = (record { ends = refl; inside = omega arith }, fit_digits _ _ (via c.password_fits.ensures c.if-not-password_fits.false))

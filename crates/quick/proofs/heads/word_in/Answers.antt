@@ -5,18 +5,6 @@ use Prim.Native.Nat.{◌+◌}
 use Rattle.laws.specs.Bytes.{word_at}
 use Rattle.quick.proofs.heads.word_in.Goals as goal
 
-pub overflow_cast-result : goal.overflow_cast-result
-overflow_cast-result c = omega (arith, c.type_inv.image c.args.at)
-
-pub overflow_cast-result-2 : goal.overflow_cast-result-2
-overflow_cast-result-2 c = omega (arith, c.type_inv.image (c.args.at + 1))
-
-pub overflow_mul-result : goal.overflow_mul-result
-overflow_mul-result c = omega (arith, c.type_inv.image (c.args.at + 1))
-
-pub overflow_add-result-2 : goal.overflow_add-result-2
-overflow_add-result-2 c = omega (arith, c.type_inv.image c.args.at, c.type_inv.image (c.args.at + 1))
-
 pub returns : goal.returns
 unfolding word_at
 returns c = (refl, omega (arith, c.type_inv.image c.args.at, c.type_inv.image (c.args.at + 1)))

@@ -2,18 +2,9 @@
 use mathlib.Core.Path.{refl, ◌∙◌}
 use mathlib.Core.Bool.{true}
 use Rattle.acceptance.proofs.CameTo.{clash}
-use Rattle.quick.proofs.Positions.{moves_none, moves_then, part_moves, part_onward, next_moves}
+use Rattle.quick.proofs.Positions.{moves_then, part_moves, part_onward, next_moves}
 use native.Mathlib.Omega.{arith}
 use Rattle.quick.proofs.run.run.Goals as goal
-
-pub loop-s-init : goal.loop-s-init
-loop-s-init c = ((moves_none _ _ _ _ c.requires.head c.requires.inside, c.requires.going), refl)
-
-pub overflow_add-s : goal.overflow_add-s
-overflow_add-s c = omega (arith, c.loop-s.invariant.0.0.fits)
-
-pub returns-then-not-is_padded_to_even : goal.returns-then-not-is_padded_to_even
-returns-then-not-is_padded_to_even c = c.loop-s.invariant.0.0
 
 pub returns-in_default : goal.returns-in_default
 returns-in_default c = rw c.in_default.ensures c.loop-s.invariant.0.0
@@ -32,9 +23,6 @@ loop-s-smaller c = omega (arith, part_onward _ _ c.loop-s.s c.loop-s.invariant.0
 
 pub loop-s-preserved : goal.loop-s-preserved
 loop-s-preserved c = ((moves_then _ _ c.loop-s.invariant.0.0 (part_moves _ _ _ c.loop-s.invariant.0.1 c.loop-s.invariant.0.0.inside (c.is_padded_to_even.ensures c.if-not-is_padded_to_even.false) c.in-Some.ensures _ (λ _. omega (arith, c.if-tag-eq1.false)) (λ e. clash e c.loop-s.invariant.0.1)), c.loop-s.invariant.0.1), c.take_plain.auto.marks ∙ c.loop-s.invariant.1)
-
-pub shape_of-marks : goal.shape_of-marks
-shape_of-marks c = c.loop-s.invariant.1
 
 pub returns : goal.returns
 returns c = c.loop-s.invariant.0.0
