@@ -102,7 +102,7 @@ fn mark_all(table: &mut [u16], sheet: &[u8], key: &[u16]) -> Marked
 {
     let mut tally = Tally::none();
     let mut rest = key;
-    'questions: while let [place, right, points, after @ ..] = rest {
+    while let [place, right, points, after @ ..] = rest {
         let q = Question {
             place: SheetPlace(*place as usize),
             right: *right,

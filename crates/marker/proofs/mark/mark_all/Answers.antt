@@ -7,23 +7,23 @@ use Rattle.marker.specs.Table.{sum_in}
 use Rattle.marker.proofs.Marks.{fits_open, stopped, none_over, some_over, stops_here, goes_on, room_left, after_three, still_over}
 use Rattle.marker.proofs.mark.mark_all.Goals as goal
 
-pub questions-init : goal.questions-init
+pub loop-rest-init : goal.loop-rest-init
 unfolding sum_in
-questions-init c = record { marks = rw c.none-tally.ensures refl; room = omega (arith, c.requires, ap sum_in c.none-tally.ensures); over = refl }
+loop-rest-init c = record { marks = rw c.none-tally.ensures refl; room = omega (arith, c.requires, ap sum_in c.none-tally.ensures); over = refl }
 
 pub returns-then-not-fits : goal.returns-then-not-fits
 returns-then-not-fits c =
     let a = c.args in
-    let l = c.questions in
+    let l = c.loop-rest in
     stopped a.table.now a.sheet.now a.key.now
     (sym (stops_here _ _ _ l.tally _ _ c.in-len3-up.len_at_least refl c.take_out-number.ensures.value (sym c.fits.ensures ∙ c.if-not-fits.true)) ∙ l.invariant.marks)
 
 pub judge-requires : goal.judge-requires
 judge-requires c = (fits_open _ _ (sym c.fits.ensures ∙ c.if-not-fits.false)).0
 
-pub questions-preserved : goal.questions-preserved
-questions-preserved c =
-    let l = c.questions in
+pub loop-rest-preserved : goal.loop-rest-preserved
+loop-rest-preserved c =
+    let l = c.loop-rest in
     let s = l.rest.now in
     let h = c.in-len3-up.len_at_least in
     let n = c.take_out-number.ensures in
@@ -36,13 +36,13 @@ questions-preserved c =
 
 pub returns-then-not-is_empty : goal.returns-then-not-is_empty
 returns-then-not-is_empty c =
-    let l = c.questions in
+    let l = c.loop-rest in
     some_over c.args.table.now c.args.sheet.now c.args.key.now l.table l.rest.now l.tally c.in_default.len_below l.invariant.over
     (eqb-false _ 0 (sym c.is_empty.ensures ∙ c.if-not-is_empty.true))
 
 pub returns : goal.returns
 returns c =
-    let l = c.questions in
+    let l = c.loop-rest in
     c.sums.ensures
     ∙ none_over c.args.table.now c.args.sheet.now c.args.key.now l.table l.rest.now l.tally c.in_default.len_below l.invariant.over l.invariant.marks
     (eqb-true _ 0 (sym c.is_empty.ensures ∙ c.if-not-is_empty.false))

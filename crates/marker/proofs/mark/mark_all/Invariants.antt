@@ -7,12 +7,12 @@ use Rattle.marker.specs.Key.{questions_of}
 use Rattle.marker.specs.Table.{open_in, no_points, sum_in, marked_by}
 use Rattle.marker.proofs.mark.mark_all.Given as goal
 
-abbrev pub invariant-questions : goal.invariant-questions
-invariant-questions l = record {
+abbrev pub invariant-loop-rest : goal.invariant-loop-rest
+invariant-loop-rest l = record {
   marks : marked_by l.table l.sheet (questions_of l.rest) l.tally ≡ marked_by l.initial.table l.sheet (questions_of l.key) no_points;
   room : sum_in l.tally + 255 * open_in l.table ≤ 65280;
   over : length l.rest % 3 ≡ length l.key % 3;
 }
 
-abbrev pub decreases-questions : goal.decreases-questions
-decreases-questions l = length l.rest
+abbrev pub decreases-loop-rest : goal.decreases-loop-rest
+decreases-loop-rest l = length l.rest
