@@ -76,12 +76,12 @@ pub fn text_place(image: &[u8], sheet: &[u8], place: ImagePlace, item: usize) ->
 }
 
 // An item's text; the refusal number goes to `refusal`, and a refusal gives an empty part.
-pub fn option_text<'a, 'b, 'c>(
+pub fn option_text<'a>(
     image: &'a [u8],
-    sheet: &'b [u8],
+    sheet: &[u8],
     place: ImagePlace,
     item: usize,
-    refusal: &'c mut u8,
+    refusal: &mut u8,
 ) -> &'a [u8]
     ensures result_value { result.now ≡ option_text image.now (length sheet.now) place.0 item }
     ensures refusal_after { refusal.new
