@@ -32,9 +32,6 @@ unfolding take_all
 gathered_join [] gs s = refl
 gathered_join (f ∷ fs) gs s = gathered_join fs gs _
 
-pub gathered_same : {s t ps qs : List ℕ} {k r : ℕ} → s ≡ t → k ≡ r → ps ≡ qs → gathered s k ps ≡ gathered t r qs
-gathered_same a b c = rw (a, b, c)
-
 -- a field, with room for its place and without
 pub one_taken : (f : Field) (s ps : List ℕ) (k : ℕ) {t : List ℕ} → k < length ps → t ≡ default_written f s → gathered t (k + 1) (set ps k f.image.0) ≡ take_one f (gathered s k ps)
 unfolding take_one

@@ -9,12 +9,20 @@ use Rattle.marker.specs.Key.{question, questions_of, question_at}
 use Rattle.marker.specs.declared.key.Question.{Question}
 
 -- one or two numbers are no question
-few : (l : List ℕ) → length l < 3 → questions_of l ≡ []
+pub few : (l : List ℕ) → length l < 3 → questions_of l ≡ []
 unfolding questions_of
 few [] k = refl
 few (p ∷ []) k = refl
 few (p ∷ r ∷ []) k = refl
 few (p ∷ r ∷ n ∷ l) k = absurd (omega arith)
+
+-- three or more begin with one
+pub first_question : (l : List ℕ) → 3 ≤ length l → questions_of l ≡ question (get_or l 0 0) (get_or l 1 0) (get_or l 2 0) ∷ questions_of (drop 3 l)
+unfolding questions_of
+first_question [] k = absurd (omega arith)
+first_question (p ∷ []) k = absurd (omega arith)
+first_question (p ∷ r ∷ []) k = absurd (omega arith)
+first_question (p ∷ r ∷ n ∷ l) k = refl
 
 -- a key without its first question
 drop_question : (key : List ℕ) → questions_of (drop 3 key) ≡ drop 1 (questions_of key)
@@ -65,6 +73,3 @@ module _ (key : List ℕ) (i : ℕ) where
 
   pub question_past : length key / 3 ≤ i → question 0 0 0 ≡ question_at key i
   question_past h = at_drop _ (ap (λ (l : List Question). get_or l 0 (question 0 0 0)) (sym (drop_questions i key) ∙ no_question h))
-
-  pub question_next : i < length key / 3 → questions_of (drop (3 * i) key) ≡ question_at key i ∷ questions_of (drop (3 * (i + 1)) key)
-  question_next h = next_question h ∙ ap (λ (q : Question). q ∷ questions_of (drop (3 * (i + 1)) key)) (question_read h)

@@ -1,17 +1,18 @@
 -- Marking by the table is marking by the fields: the table knows, of each place, whether it may still be named and the default there.
-use Prim.Native.Nat.{ℕ, ◌+◌, ◌-◌, ◌*◌, ◌/◌, ◌%◌, ◌≤◌, ◌<◌}
+use Prim.Native.Nat.{ℕ, ◌+◌, ◌-◌, ◌*◌, ◌%◌, ◌≤◌, ◌<◌}
 use mathlib.Core.Path.{◌≡◌, refl, sym, ap, ◌∙◌}
 use mathlib.Core.Bool.{Bool, true, false, not, false≢true}
 use mathlib.Core.List.{List, [], ◌∷◌}
 use native.Mathlib.Omega.{arith}
-use lib.ListN.{length, get_or, drop}
+use lib.ListN.{length, get_or, take, drop, length-drop}
+use Rattle.std.proofs.lemmas.List.{take_all}
 use borrow.Author.Tests.{not-true, eqb-true, eqb-false, ltb-true, ltb-false, le-leb, lt-leb, leb-true}
 use Rattle.laws.specs.Choice.{when◌then◌else◌, ◌and◌, ◌=?◌, ◌<?◌, ◌≤?◌}
 use Rattle.laws.specs.Bytes.{byte_at}
 use Rattle.laws.proofs.Cases.{if_ind, by_test, if_true, if_false, if_eq, if_ne, and_l, and_r, and_true, and_false}
 use Rattle.field.specs.declared.record.Field.{Field}
 use Rattle.cmf.specs.Places.{is_in}
-use Rattle.marker.specs.Key.{questions_of, question_at}
+use Rattle.marker.specs.Key.{question, questions_of}
 use Rattle.marker.specs.Marking.{has_field, default_at, question_fits, questions_fit, verdict_of, same, verdict_on, share, sum_for, points_in, mark_refusal, marked, refusal_in}
 use Rattle.marker.specs.Table.{set_at, open_in, fits_by, no_points, sum_in, counted, marked_by, marked_all}
 use Rattle.marker.specs.declared.key.Question.{Question}
@@ -20,7 +21,7 @@ use Rattle.marker.specs.declared.verdict.Verdict.TheVariants as verdict
 use Rattle.marker.specs.declared.mark.Tally.{Tally}
 use Rattle.marker.specs.declared.mark.Marked.{Marked}
 use Rattle.marker.specs.declared.mark.Marked.TheVariants as marks
-use Rattle.marker.proofs.Keys.{question_next, no_question}
+use Rattle.marker.proofs.Keys.{first_question, few}
 use Rattle.marker.proofs.Tables.{number_at, at_taken_out, open_less}
 
 -- ---- a question that fits by its number fits
@@ -172,19 +173,23 @@ counted_sum verdict.Blank n y = omega arith
 
 -- ---- the loop
 
--- at the end
-pub ends_here : (t sheet key : List ℕ) (i : ℕ) (y : Tally) → length key / 3 ≤ i → marked_by t sheet (questions_of (drop (3 * i) key)) y ≡ marks.Sums y.right y.wrong y.blank
-unfolding marked_by
-ends_here t sheet key i y h = ap (λ (qs : List Question). marked_by t sheet qs y) (no_question key i h)
+-- at the end: the numbers of a key make whole questions, or some are over
+module _ (t sheet key : List ℕ) (u l : List ℕ) (y : Tally) (w : length l < 3) (o : length l % 3 ≡ length key % 3) where
+  pub none_over : marked_by u sheet (questions_of l) y ≡ marked_by t sheet (questions_of key) no_points → length l ≡ 0
+      → marks.Sums y.right y.wrong y.blank ≡ marked_all t sheet key
+  unfolding marked_by marked_all
+  none_over m z = sym (ap (λ (qs : List Question). marked_by u sheet qs y) (few l w)) ∙ m ∙ sym (if_eq (length key % 3) 0 _ _ (omega arith))
 
--- the numbers of a key make whole questions, or some are over
-pub none_over : (t sheet key : List ℕ) (i : ℕ) → length key ≡ 3 * i → marked_by t sheet (questions_of key) no_points ≡ marked_all t sheet key
-unfolding marked_all
-none_over t sheet key i e = sym (if_eq (length key % 3) 0 _ _ (omega arith))
+  pub some_over : (length l ≡ 0 → ⊥) → marks.Refused 15 ≡ marked_all t sheet key
+  unfolding marked_all
+  some_over n = sym (if_ne (length key % 3) 0 _ _ (λ e. n (omega arith)))
 
-pub some_over : (t sheet key : List ℕ) (i : ℕ) → length key / 3 ≤ i → 3 * i ≤ length key → (length key ≡ 3 * i → ⊥) → marks.Refused 15 ≡ marked_all t sheet key
-unfolding marked_all
-some_over t sheet key i h l n = sym (if_ne (length key % 3) 0 _ _ (λ e. n (omega arith)))
+-- the numbers after a question
+pub after_three : (l : List ℕ) → take (length l - 3) (drop 3 l) ≡ drop 3 l
+after_three l = take_all (length l - 3) (drop 3 l) (omega (arith, length-drop 3 l))
+
+pub still_over : (l r key : List ℕ) → 3 ≤ length l → r ≡ drop 3 l → length l % 3 ≡ length key % 3 → length r % 3 ≡ length key % 3
+still_over l r key h z e = omega (arith, ap length z, length-drop 3 l)
 
 -- a question that does not fit is refused, whether numbers are left over or not
 pub stopped : (t sheet key : List ℕ) → marks.Refused 15 ≡ marked_by t sheet (questions_of key) no_points → marks.Refused 15 ≡ marked_all t sheet key
@@ -193,26 +198,27 @@ stopped t sheet key e = if_ind (λ (m : Marked). marks.Refused 15 ≡ m) ((lengt
 
 -- at a question
 
-module _ (t sheet key : List ℕ) (i : ℕ) (y : Tally) (q : Question) (n : ℕ) (h : i < length key / 3) (e : q ≡ question_at key i) (f : n ≡ get_or t q.place.0 0) where
-  next_is : questions_of (drop (3 * i) key) ≡ q ∷ questions_of (drop (3 * (i + 1)) key)
-  next_is = question_next key i h ∙ ap (λ (x : Question). x ∷ questions_of (drop (3 * (i + 1)) key)) (sym e)
+module _ (t sheet l : List ℕ) (y : Tally) (q : Question) (n : ℕ) (h : 3 ≤ length l) (e : q ≡ question (get_or l 0 0) (get_or l 1 0) (get_or l 2 0))
+    (f : n ≡ get_or t q.place.0 0) where
+  next_is : questions_of l ≡ q ∷ questions_of (drop 3 l)
+  next_is = first_question l h ∙ ap (λ (x : Question). x ∷ questions_of (drop 3 l)) (sym e)
 
-  pub stops_here : fits_by n q ≡ false → marked_by t sheet (questions_of (drop (3 * i) key)) y ≡ marks.Refused 15
+  pub stops_here : fits_by n q ≡ false → marked_by t sheet (questions_of l) y ≡ marks.Refused 15
   unfolding marked_by
   stops_here b = ap (λ (qs : List Question). marked_by t sheet qs y) next_is ∙ if_false _ _ (ap (λ (m : ℕ). fits_by m q) (sym f) ∙ b)
 
   module _ (b : fits_by n q ≡ true) {u : List ℕ} {v : Verdict} {x : Tally} (g : u ≡ set_at q.place.0 0 t)
       (j : v ≡ verdict_of (n - 1) q.right (byte_at sheet q.place.0)) (k : x ≡ counted v q.points y) where
-    pub goes_on : marked_by t sheet (questions_of (drop (3 * i) key)) y ≡ marked_by u sheet (questions_of (drop (3 * (i + 1)) key)) x
+    pub goes_on : (r : List ℕ) → r ≡ drop 3 l → marked_by t sheet (questions_of l) y ≡ marked_by u sheet (questions_of r) x
     unfolding marked_by
-    goes_on =
+    goes_on r z =
         ap (λ (qs : List Question). marked_by t sheet qs y) next_is
-        ∙ rw (← f) (if_true _ _ b ∙ rw (g, k, j) refl)
+        ∙ rw (← f) (if_true _ _ b ∙ rw (g, k, j, z) refl)
 
     pub room_left : (m : ℕ) → sum_in y + 255 * open_in t ≤ m → sum_in x + 255 * open_in u ≤ m
-    room_left m l =
+    room_left m k' =
         let o = fits_open n q b in
-        omega (arith, l, o.1, ap sum_in k ∙ counted_sum v q.points y, ap open_in g, open_less t q.place.0 (λ z. omega (arith, o.0, f ∙ z)))
+        omega (arith, k', o.1, ap sum_in k ∙ counted_sum v q.points y, ap open_in g, open_less t q.place.0 (λ z. omega (arith, o.0, f ∙ z)))
 
 -- ---- the answer
 

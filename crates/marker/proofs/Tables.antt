@@ -1,11 +1,11 @@
 -- The table of places: what it holds after the fields were entered, and that a place that is taken out leaves one open place less.
-use Prim.Native.Nat.{ℕ, zero, suc, ◌+◌, ◌-◌, ◌≤◌, ◌<◌}
+use Prim.Native.Nat.{ℕ, zero, suc, ◌+◌, ◌≤◌, ◌<◌}
 use mathlib.Core.Path.{◌≡◌, refl, sym, ap, ◌∙◌}
 use mathlib.Core.Bool.{true, false}
 use mathlib.Core.List.{List, [], ◌∷◌, ◌++◌, Memᴰ}
 use native.Mathlib.Omega.{arith}
-use lib.ListN.{length, get_or, set, take, length-set, get_or-eq_default}
-use lib.Seq.{get_or-set_same, get_or-set_other, take-suc}
+use lib.ListN.{length, get_or, set, length-set, get_or-eq_default}
+use lib.Seq.{get_or-set_same, get_or-set_other}
 use borrow.Author.Tests.{eqb-true, eqb-false, ltb-true, ltb-false}
 use Rattle.laws.specs.Choice.{when◌then◌else◌, ◌=?◌, ◌<?◌}
 use Rattle.laws.specs.Bytes.{byte_at}
@@ -100,21 +100,14 @@ unfolding fields_read
 read_last im [] p = refl
 read_last im (q ∷ ps) p = ap (λ (fs : List Field). (component_at im q).field ∷ fs) (read_last im ps p)
 
-pub entered_last : (im ps : List ℕ) (k : ℕ) (t : List ℕ) {c : Component} {u : List ℕ} → 0 < k → k ≤ length ps
-    → c ≡ component_at im (get_or ps (k - 1) 0) → u ≡ with_field c.field t
-    → with_fields (fields_read im (take k ps)) t ≡ with_fields (fields_read im (take (k - 1) ps)) u
-entered_last im ps k t {c} h l e w =
-    let z : k ≡ suc (k - 1) = omega arith in
-    ap (λ (j : ℕ). with_fields (fields_read im (take j ps)) t) z
-    ∙ ap (λ (qs : List ℕ). with_fields (fields_read im qs) t) (take-suc ps (k - 1) 0 (omega arith))
-    ∙ ap (λ (fs : List Field). with_fields fs t) (read_last im (take (k - 1) ps) (get_or ps (k - 1) 0))
-    ∙ fields_last (fields_read im (take (k - 1) ps)) (component_at im (get_or ps (k - 1) 0)).field t
-    ∙ ap (λ (x : Component). with_fields (fields_read im (take (k - 1) ps)) (with_field x.field t)) (sym e)
-    ∙ ap (with_fields (fields_read im (take (k - 1) ps))) (sym w)
+pub entered_last : (im ps qs : List ℕ) (p : ℕ) (t : List ℕ) {c : Component} {u : List ℕ} → qs ≡ ps ++ (p ∷ []) → c ≡ component_at im p → u ≡ with_field c.field t
+    → with_fields (fields_read im qs) t ≡ with_fields (fields_read im ps) u
+entered_last im ps qs p t h e w = rw (h, read_last im ps p, w, e) (fields_last (fields_read im ps) (component_at im p).field t)
 
-pub entered_none : (im ps : List ℕ) (k : ℕ) (t : List ℕ) → k ≤ 0 → with_fields (fields_read im (take k ps)) t ≡ t
+pub entered_none : (im ps t : List ℕ) → length ps ≡ 0 → with_fields (fields_read im ps) t ≡ t
 unfolding fields_read with_fields
-entered_none im ps k t h = let z : k ≡ 0 = omega arith in rw z
+entered_none im [] t h = refl
+entered_none im (p ∷ ps) t h = absurd (omega arith)
 
 length_fields : (fs : List Field) (t : List ℕ) → length (with_fields fs t) ≡ length t
 unfolding with_fields with_field

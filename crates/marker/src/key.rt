@@ -23,33 +23,21 @@ impl Question {
     pub const MAX_POINTS: u16 = 255;
 }
 
-// A cast apart, so that a number of a list needs no proof that it fits.
-fn whole(number: u16) -> usize
-    ensures { result ≡ number }
-{
-    number as usize
-}
-
 // Whether a question at a place would be about a field: it has one byte, and has it there.
 pub fn is_byte_at(f: Field, place: SheetPlace) -> bool
     ensures { result ≡ is_byte_at place.0 f }
 {
-    let kind = f.kind;
-    if f.sheet.0 == place.0 {
-        return profile_of(kind).bytes == 1;
-    }
-    false
+    f.sheet.0 == place.0 && profile_of(f.kind).bytes == 1
 }
 
 // The ith question of a key, counted from 0; zeros past the last.
 pub fn question_at(key: &[u16], i: usize) -> Question
     ensures { result ≡ question_at key.now i }
 {
-    let there = has_triple(key.len(), i);
-    if there {
+    if has_triple(key.len(), i) {
         let at = 3 * i;
         return Question {
-            place: SheetPlace(whole(key[at])),
+            place: SheetPlace(key[at] as usize),
             right: key[at + 1],
             points: key[at + 2],
         };

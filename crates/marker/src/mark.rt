@@ -5,12 +5,13 @@ ghost use Rattle.cmf.specs.Limits.{most_fields};
 ghost use Rattle.marker.specs.Marking.{most_points, verdict_of, mark_refusal, marked, refusal_in};
 ghost use Rattle.marker.specs.Table.{open_in, fits_by, no_points, sum_in, counted, marked_all};
 
-use crate::key::{Question, question_at};
+use crate::key::Question;
 use crate::table::{enter_all, take_out};
 use crate::verdict::Verdict;
 use cmf::image::Image;
+use field::kind::SheetPlace;
 use handset::fields::list_fields;
-use laws::{byte_at, has_triple};
+use laws::byte_at;
 
 // The points right, wrong and blank; or the refusal number, and no sums.
 #[derive(Clone, Copy)]
@@ -46,21 +47,19 @@ impl Tally {
         requires { sum_in self ≤ most_fields * most_points }
         ensures { result ≡ counted verdict points self }
     {
+        let points = points as u32;
         match verdict {
             Verdict::Right => Tally {
-                right: self.right + points as u32,
-                wrong: self.wrong,
-                blank: self.blank,
+                right: self.right + points,
+                ..self
             },
             Verdict::Wrong => Tally {
-                right: self.right,
-                wrong: self.wrong + points as u32,
-                blank: self.blank,
+                wrong: self.wrong + points,
+                ..self
             },
             Verdict::Blank => Tally {
-                right: self.right,
-                wrong: self.wrong,
-                blank: self.blank + points as u32,
+                blank: self.blank + points,
+                ..self
             },
         }
     }
@@ -81,13 +80,7 @@ impl Tally {
 fn fits(q: Question, number: u16) -> bool
     ensures { result ≡ fits_by number q }
 {
-    if number == 0 {
-        return false;
-    }
-    if Question::MAX_BYTE < q.right {
-        return false;
-    }
-    if q.right + 1 == number {
+    if number == 0 || q.right > Question::MAX_BYTE || q.right + 1 == number {
         return false;
     }
     q.points <= Question::MAX_POINTS
@@ -108,21 +101,21 @@ fn mark_all(table: &mut [u16], sheet: &[u8], key: &[u16]) -> Marked
     ensures { result ≡ marked_all table.old sheet.now key.now }
 {
     let mut tally = Tally::none();
-    let mut i = 0;
-    let mut there = has_triple(key.len(), i);
-    while there {
-        let q = question_at(key, i);
-        let place = q.place;
-        let number = take_out(&mut *table, place);
-        let fine = fits(q, number);
-        if !fine {
+    let mut rest = key;
+    while let [place, right, points, after @ ..] = rest {
+        let q = Question {
+            place: SheetPlace(*place as usize),
+            right: *right,
+            points: *points,
+        };
+        let number = take_out(table, q.place);
+        if !fits(q, number) {
             return Marked::Refused(NO_KEY);
         }
         tally = tally.with(judge(q, number, sheet), q.points);
-        i = i + 1;
-        there = has_triple(key.len(), i);
+        rest = after;
     }
-    if key.len() != 3 * i {
+    if !rest.is_empty() {
         return Marked::Refused(NO_KEY);
     }
     tally.sums()
@@ -138,8 +131,8 @@ pub fn mark(image: &[u8], sheet: &[u8], key: &[u16]) -> Marked
     if fields.refusal != 0 {
         return Marked::Refused(fields.refusal);
     }
-    let places = fields.places;
+    let (places, _) = fields.places.split_at(fields.count);
     let mut table = [0u16; Image::MAX_SHEET];
-    enter_all(image, &places, fields.count, &mut table);
+    enter_all(image, places, &mut table);
     mark_all(&mut table, sheet, key)
 }

@@ -1,7 +1,7 @@
 // The places that a question may be about, in a table with a number for each byte of a sheet: 1 more than the
 // default of the one-byte field there, or 0 for none. A place is taken out with its first question, and is 0
 // from then on.
-ghost use Rattle.std.specs.Prelude.{◌≡◌, ◌≤◌, length, take, get_or};
+ghost use Rattle.std.specs.Prelude.{◌≡◌, get_or};
 ghost use Rattle.marker.specs.Table.{with_field, set_at, fields_read, with_fields};
 
 use cmf::component::read_component;
@@ -13,30 +13,19 @@ use field::record::Field;
 fn enter(table: &mut [u16], f: Field)
     ensures { table.new ≡ with_field f table.old }
 {
-    let kind = f.kind;
     let at = f.sheet.0;
-    if profile_of(kind).bytes == 1 {
-        if at < table.len() {
-            let default = f.default;
-            table[at] = default.byte(0) as u16 + 1;
-        }
+    if profile_of(f.kind).bytes == 1 && at < table.len() {
+        table[at] = f.default.byte(0) as u16 + 1;
     }
 }
 
-// Enters the fields at the first count of a list of image places. The last comes first, so that of two at one
-// place the first would count.
-pub(crate) fn enter_all(image: &[u8], places: &[usize], count: usize, table: &mut [u16])
-    requires { count ≤ length places.now }
-    ensures { table.new
-        ≡ with_fields (fields_read image.now (take count places.now))
-        table.old }
+// Enters the fields at a list of image places. The last comes first, so that of two at one place the first
+// would count.
+pub(crate) fn enter_all(image: &[u8], places: &[usize], table: &mut [u16])
+    ensures { table.new ≡ with_fields (fields_read image.now places.now) table.old }
 {
-    let mut left = count;
-    while 0 < left {
-        left = left - 1;
-        let component = read_component(image, places[left]);
-        let field = component.field;
-        enter(&mut *table, field);
+    for place in places.iter().rev() {
+        enter(table, read_component(image, *place).field);
     }
 }
 

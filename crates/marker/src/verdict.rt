@@ -14,12 +14,13 @@ impl Verdict {
     pub fn of(default: u16, right: u16, byte: u8) -> Self
         ensures { result ≡ verdict_of default right byte }
     {
-        if byte as u16 == default {
-            return Verdict::Blank;
+        let byte = byte as u16;
+        if byte == default {
+            Verdict::Blank
+        } else if byte == right {
+            Verdict::Right
+        } else {
+            Verdict::Wrong
         }
-        if byte as u16 == right {
-            return Verdict::Right;
-        }
-        Verdict::Wrong
     }
 }

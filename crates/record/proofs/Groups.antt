@@ -29,13 +29,13 @@ module _ (n : ℕ) where
   three_groups h = if_ge n 128 _ _ (omega arith) ∙ if_ge n 16384 _ _ h
 
   -- how many there are
-  pub count_one : n < 128 → length (encoded n) ≡ 1
+  count_one : n < 128 → length (encoded n) ≡ 1
   count_one h = ap length (one_group h)
 
-  pub count_two : 128 ≤ n → n < 16384 → length (encoded n) ≡ 2
+  count_two : 128 ≤ n → n < 16384 → length (encoded n) ≡ 2
   count_two h k = ap length (two_groups h k)
 
-  pub count_three : 16384 ≤ n → length (encoded n) ≡ 3
+  count_three : 16384 ≤ n → length (encoded n) ≡ 3
   count_three h = ap length (three_groups h)
 
   pub count_most : length (encoded n) ≤ 3

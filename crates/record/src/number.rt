@@ -5,6 +5,8 @@ ghost use Rattle.std.specs.Prelude.{◌≡◌, length};
 ghost use Rattle.laws.specs.Parts.{put_at};
 ghost use Rattle.record.specs.Numbers.{encoded, behind, number_at};
 
+use laws::put_bytes;
+
 // How many groups a number has; 16,384 is 128 times 128.
 pub fn group_count(n: u16) -> usize
     ensures { result ≡ length (encoded n) }
@@ -18,29 +20,34 @@ pub fn group_count(n: u16) -> usize
     }
 }
 
-// Writes a number at a place and answers the place after it; where it does not fit nothing changes, and the
+// Writes groups at a place and answers the place after them; where they do not fit nothing changes, and the
 // place itself is answered.
+fn write_groups(room: &mut [u8], at: usize, groups: &[u8]) -> usize
+    ensures { (result ≡ behind at groups.now room.old)
+        × (room.new ≡ put_at at groups.now room.old) }
+{
+    put_bytes(room, at, groups);
+    if laws::room(room, at, groups.len()) {
+        at + groups.len()
+    } else {
+        at
+    }
+}
+
+// Writes a number at a place, likewise.
 pub fn write_number(room: &mut [u8], at: usize, n: u16) -> usize
     ensures { (result ≡ behind at (encoded n) room.old)
         × (room.new ≡ put_at at (encoded n) room.old) }
 {
-    let count = group_count(n);
-    if room.len() < at || room.len() - at < count {
-        return at;
-    }
+    let last = (n % 128) as u8;
     if n < 128 {
-        room[at] = n as u8;
-        return at + 1;
+        write_groups(room, at, &[n as u8])
+    } else if n < 16384 {
+        write_groups(room, at, &[(128 + n / 128) as u8, last])
+    } else {
+        let first = (128 + n / 16384) as u8;
+        write_groups(room, at, &[first, (128 + n / 128 % 128) as u8, last])
     }
-    if n < 16384 {
-        room[at] = (128 + n / 128) as u8;
-        room[at + 1] = (n % 128) as u8;
-        return at + 2;
-    }
-    room[at] = (128 + n / 16384) as u8;
-    room[at + 1] = (128 + n / 128 % 128) as u8;
-    room[at + 2] = (n % 128) as u8;
-    at + 3
 }
 
 // Reads the number at a place, with the place after it; bytes that break the rules are none.

@@ -47,7 +47,7 @@ fn scan(bytes: &[u8], at: usize, count: usize) -> u8
 {
     let mut next = at;
     let mut known = true;
-    'numbers: for _ in 0..count {
+    for _ in 0..count {
         let Some((x, behind)) = read_number(bytes, next) else {
             return NO_RECORD;
         };

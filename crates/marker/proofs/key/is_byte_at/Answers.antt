@@ -11,6 +11,6 @@ pub returns-then-f-place : goal.returns-then-f-place
 unfolding is_byte_at
 returns-then-f-place c = ap (λ (r : Profile). r.bytes =? 1) c.profile_of.ensures ∙ sym (and_true _ (eq-eqb _ _ c.if-f-place.true))
 
-pub returns : goal.returns
+pub returns-else-f-place : goal.returns-else-f-place
 unfolding is_byte_at
-returns c = sym (and_false _ (ne_eqb _ _ c.if-f-place.false))
+returns-else-f-place c = let e = ne_eqb _ _ c.if-f-place.false in e ∙ sym (and_false _ e)

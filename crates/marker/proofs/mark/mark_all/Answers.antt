@@ -1,60 +1,48 @@
--- The loop's invariant: marking what is left from here is marking all; the sums so far, with 255 points for each open place, have room; three numbers for
--- each question so far are in the key; and what was asked last is whether there is another.
+-- The loop's invariant: marking what is left from here is marking all; the sums so far, with 255 points for each open place, have room; and as many numbers
+-- will be left over as of the whole key.
 use native.Mathlib.Omega.{arith}
-use Prim.Native.Nat.{◌/◌}
 use mathlib.Core.Path.{refl, sym, ap, ◌∙◌}
-use lib.ListN.{length}
-use borrow.Author.Tests.{ltb-true, ltb-false}
+use borrow.Author.Tests.{eqb-true, eqb-false}
 use Rattle.marker.specs.Table.{sum_in}
-use Rattle.marker.proofs.Marks.{fits_open, stopped, ends_here, none_over, some_over, stops_here, goes_on, room_left}
-use borrow.Author.Rules.{rules}
+use Rattle.marker.proofs.Marks.{fits_open, stopped, none_over, some_over, stops_here, goes_on, room_left, after_three, still_over}
 use Rattle.marker.proofs.mark.mark_all.Goals as goal
 
-pub loop-there-init : goal.loop-there-init
+pub loop-rest-init : goal.loop-rest-init
 unfolding sum_in
-loop-there-init c = (rw c.none-tally.ensures refl, (omega (arith, c.requires, ap sum_in c.none-tally.ensures), (refl, (omega arith, c.has_triple-there.ensures))))
+loop-rest-init c = record { marks = rw c.none-tally.ensures refl; room = omega (arith, c.requires, ap sum_in c.none-tally.ensures); over = refl }
 
-pub returns-then-not-fine : goal.returns-then-not-fine
-returns-then-not-fine c = let a = c.args in
-    let l = c.loop-there in
-    let more = ltb-true l.i (length a.key.now / 3) (sym l.invariant.1.1.1.1 ∙ c.loop-there-test.true) in
-    stopped a.table.now a.sheet.now a.key.now (sym (stops_here _ _ _ _ _ _ _ more c.question_at-q.ensures c.take_out-number.ensures.value (sym c.fits-fine.ensures ∙ c.if-not-fine.true)) ∙ l.invariant.0)
+pub returns-then-not-fits : goal.returns-then-not-fits
+returns-then-not-fits c =
+    let a = c.args in
+    let l = c.loop-rest in
+    stopped a.table.now a.sheet.now a.key.now
+    (sym (stops_here _ _ _ l.tally _ _ c.in-len3-up.len_at_least refl c.take_out-number.ensures.value (sym c.fits.ensures ∙ c.if-not-fits.true)) ∙ l.invariant.marks)
 
 pub judge-requires : goal.judge-requires
-judge-requires c = (fits_open _ _ (sym c.fits-fine.ensures ∙ c.if-not-fine.false)).0
+judge-requires c = (fits_open _ _ (sym c.fits.ensures ∙ c.if-not-fits.false)).0
 
-pub overflow_add-i : goal.overflow_add-i
-overflow_add-i c = let a = c.args in
-    let l = c.loop-there in
-    let more = ltb-true l.i (length a.key.now / 3) (sym l.invariant.1.1.1.1 ∙ c.loop-there-test.true) in
-    omega (arith, more, c.well_formed.1.1.0)
+pub loop-rest-preserved : goal.loop-rest-preserved
+loop-rest-preserved c =
+    let l = c.loop-rest in
+    let s = l.rest.now in
+    let h = c.in-len3-up.len_at_least in
+    let n = c.take_out-number.ensures in
+    let fine = sym c.fits.ensures ∙ c.if-not-fits.false in
+    record {
+      marks = sym (goes_on _ _ s l.tally _ _ h refl n.value fine n.table_after c.judge.ensures c.with-tally.ensures _ (after_three s)) ∙ l.invariant.marks;
+      room = room_left _ c.args.sheet.now s l.tally _ _ h refl n.value fine n.table_after c.judge.ensures c.with-tally.ensures 65280 l.invariant.room;
+      over = still_over s _ c.args.key.now h (after_three s) l.invariant.over;
+    }
 
-pub loop-there-smaller : goal.loop-there-smaller
-loop-there-smaller c = let a = c.args in
-    let l = c.loop-there in
-    let more = ltb-true l.i (length a.key.now / 3) (sym l.invariant.1.1.1.1 ∙ c.loop-there-test.true) in
-    omega (arith, more, l.invariant.1.1.1.0)
-
-pub loop-there-preserved : goal.loop-there-preserved
-loop-there-preserved c = let a = c.args in
-    let l = c.loop-there in
-    let more = ltb-true l.i (length a.key.now / 3) (sym l.invariant.1.1.1.1 ∙ c.loop-there-test.true) in
-    let fine = sym c.fits-fine.ensures ∙ c.if-not-fine.false in (
-      sym (goes_on _ _ _ _ _ _ _ more c.question_at-q.ensures c.take_out-number.ensures.value fine c.take_out-number.ensures.table_after c.judge.ensures c.with-tally.ensures) ∙ l.invariant.0,
-      (
-        room_left _ a.sheet.now _ _ _ _ _ more c.question_at-q.ensures c.take_out-number.ensures.value fine c.take_out-number.ensures.table_after c.judge.ensures c.with-tally.ensures 65280 l.invariant.1.0,
-        (search rules, (omega arith, c.has_triple-there-in-loop-there.ensures)),
-      ),
-    )
-
-pub returns-then-key-i : goal.returns-then-key-i
-returns-then-key-i c = let a = c.args in
-    let l = c.loop-there in
-    let none = ltb-false l.i (length a.key.now / 3) (sym l.invariant.1.1.1.1 ∙ c.loop-there-test.false) in
-    some_over a.table.now a.sheet.now a.key.now l.i none l.invariant.1.1.1.0 c.if-key-i.true
+pub returns-then-not-is_empty : goal.returns-then-not-is_empty
+returns-then-not-is_empty c =
+    let l = c.loop-rest in
+    some_over c.args.table.now c.args.sheet.now c.args.key.now l.table l.rest.now l.tally c.in_default.len_below l.invariant.over
+    (eqb-false _ 0 (sym c.is_empty.ensures ∙ c.if-not-is_empty.true))
 
 pub returns : goal.returns
-returns c = let a = c.args in
-    let l = c.loop-there in
-    let none = ltb-false l.i (length a.key.now / 3) (sym l.invariant.1.1.1.1 ∙ c.loop-there-test.false) in
-    c.sums.ensures ∙ sym (ends_here _ _ _ _ l.tally none) ∙ l.invariant.0 ∙ none_over a.table.now a.sheet.now a.key.now l.i c.if-key-i.false
+returns c =
+    let l = c.loop-rest in
+    c.sums.ensures
+    ∙ none_over c.args.table.now c.args.sheet.now c.args.key.now l.table l.rest.now l.tally c.in_default.len_below l.invariant.over l.invariant.marks
+    (eqb-true _ 0 (sym c.is_empty.ensures ∙ c.if-not-is_empty.false))

@@ -1,15 +1,13 @@
 -- The loop's invariant: with the places that are left entered, the table is the whole.
-use native.Mathlib.Omega.{arith}
-use mathlib.Core.Path.{refl, sym, ◌∙◌}
+use mathlib.Core.Path.{sym, ◌∙◌}
 use Rattle.marker.proofs.Tables.{entered_last, entered_none}
-use borrow.Author.Rules.{rules}
 use Rattle.marker.proofs.table.enter_all.Goals as goal
 
-pub loop-left-init : goal.loop-left-init
-loop-left-init c = (refl, (c.requires, refl))
+pub loop-place-init : goal.loop-place-init
+loop-place-init c = cc (c.into_iter-place-iterator.ensures.into_iter_gives, c.rev-place-items.ensures.source, c.iter.ensures.rest)
 
-pub loop-left-preserved : goal.loop-left-preserved
-loop-left-preserved c = (sym (entered_last _ _ _ _ c.loop-left-test.true c.loop-left.invariant.1.0 c.read_component-component.ensures c.enter.ensures) ∙ c.loop-left.invariant.0, (omega (arith, c.loop-left.invariant.1.0), search rules))
+pub loop-place-preserved : goal.loop-place-preserved
+loop-place-preserved c = sym (entered_last _ _ _ _ _ c.in-Some.ensures.steps c.read_component.ensures c.enter.ensures) ∙ c.loop-place.invariant
 
 pub returns : goal.returns
-returns c = sym (entered_none c.args.image.now c.args.places.now _ _ c.loop-left-test.false) ∙ c.loop-left.invariant.0
+returns c = sym (entered_none c.args.image.now _ _ c.in-None.ensures.steps.0) ∙ c.loop-place.invariant

@@ -9,16 +9,16 @@ use Rattle.record.proofs.Steps.{row_broken, row_next, events_next, row_over, row
 use Rattle.record.proofs.reading.scan.Goals as goal
 use Rattle.record.proofs.reading.scan.Goals.{then-known, else-known}
 
-pub numbers-init : goal.numbers-init
+pub loop-init : goal.loop-init
 unfolding ◌and◌
-numbers-init c = let z : c.args.count - 0 ≡ c.args.count = omega arith in rw z (record { row = refl; events = refl })
+loop-init c = let z : c.args.count - 0 ≡ c.args.count = omega arith in rw z (record { row = refl; events = refl })
 
 pub returns-in_default : goal.returns-in_default
-returns-in_default c = row_refused _ _ _ (sym c.numbers.invariant.row ∙ row_broken _ _ _ (omega arith) (sym c.read_number.ensures ∙ c.in_default.is))
+returns-in_default c = row_refused _ _ _ (sym c.loop.invariant.row ∙ row_broken _ _ _ (omega arith) (sym c.read_number.ensures ∙ c.in_default.is))
 
-pub numbers-preserved : goal.numbers-preserved
-numbers-preserved c =
-    let l = c.numbers in
+pub loop-preserved : goal.loop-preserved
+loop-preserved c =
+    let l = c.loop in
     let less : c.args.count - (l.counter + 1) ≡ c.args.count - l.counter - 1 = omega arith in
     let e = sym c.read_number.ensures ∙ c.in-Some.is in
     let known : c.if-known.known ≡ l.known and (c.in-Some.x ≤? 16) = elim c.if-known.branch [
@@ -31,14 +31,14 @@ numbers-preserved c =
     })
 
 pub returns-then-next-bytes : goal.returns-then-next-bytes
-returns-then-next-bytes c = row_refused _ _ _ (sym c.numbers.invariant.row ∙ row_over _ _ _ (omega arith) c.if-next-bytes.true)
+returns-then-next-bytes c = row_refused _ _ _ (sym c.loop.invariant.row ∙ row_over _ _ _ (omega arith) c.if-next-bytes.true)
 
 pub returns-then-known-2 : goal.returns-then-known-2
 returns-then-known-2 c =
-    row_good _ _ _ (sym c.numbers.invariant.row ∙ row_ends _ _ _ (omega arith) c.if-next-bytes.false)
-    (sym c.numbers.invariant.events ∙ and_i c.if-known-2.true (events_none _ _ _ (omega arith)))
+    row_good _ _ _ (sym c.loop.invariant.row ∙ row_ends _ _ _ (omega arith) c.if-next-bytes.false)
+    (sym c.loop.invariant.events ∙ and_i c.if-known-2.true (events_none _ _ _ (omega arith)))
 
 pub returns-else-known-2 : goal.returns-else-known-2
 returns-else-known-2 c =
-    row_bad _ _ _ (sym c.numbers.invariant.row ∙ row_ends _ _ _ (omega arith) c.if-next-bytes.false)
-    (sym c.numbers.invariant.events ∙ and_false _ c.if-known-2.false)
+    row_bad _ _ _ (sym c.loop.invariant.row ∙ row_ends _ _ _ (omega arith) c.if-next-bytes.false)
+    (sym c.loop.invariant.events ∙ and_false _ c.if-known-2.false)

@@ -12,6 +12,6 @@ pub returns-then-byte-right : goal.returns-then-byte-right
 unfolding verdict_of
 returns-then-byte-right c = search (choices, arith)
 
-pub returns : goal.returns
+pub returns-else-byte-right : goal.returns-else-byte-right
 unfolding verdict_of
-returns c = search (choices, arith)
+returns-else-byte-right c = search (choices, arith)
