@@ -1,5 +1,5 @@
 -- The rows of a picture, each written where the one before it ends.
-use Prim.Native.Nat.{ℕ, zero, suc, ◌+◌, ◌-◌, ◌*◌, ◌≤◌, ◌<◌}
+use Prim.Native.Nat.{ℕ, zero, suc, ◌+◌, ◌-◌, ◌*◌, ◌≤◌}
 use mathlib.Core.Path.{◌≡◌, refl, sym, ap, ◌∙◌}
 use mathlib.Core.Bool.{true, false}
 use mathlib.Core.List.{List, [], ◌∷◌, ◌++◌}
@@ -63,15 +63,13 @@ module _ (im sheet : List ℕ) (s : Session) where
       let rest = rows_from im sheet s count n (k + 1) (head_at im p).next.0 in
       rw (f, q) (ap (λ (i : ℕ). over (over d at row) i rest) (sym l) ∙ over_next d at row rest ∙ rw r)
 
-  pub rows_turn : (count left k p at : ℕ) (row d e : List ℕ) (h : Head) → 2 ≤ s.columns → 1 < left → h ≡ head_at im p → row ≡ row_at im sheet s count k p → e ≡ over d at row
-      → over e (at + s.columns) (rows_from im sheet s count (left - 1 - 1) (k + 1) h.next.0) ≡ over d at (rows_from im sheet s count (left - 1) k p)
-  rows_turn count left k p at row d e h w l q r f =
-      let z : suc (left - 1 - 1) ≡ left - 1 = omega arith in
-      rows_one count (left - 1 - 1) k p at row d e h w q r f ∙ ap (λ (n : ℕ). over d at (rows_from im sheet s count n k p)) z
+  pub rows_turn : (count n m k p at : ℕ) (row d e : List ℕ) (h : Head) → 2 ≤ s.columns → n ≡ suc m → h ≡ head_at im p → row ≡ row_at im sheet s count k p → e ≡ over d at row
+      → over e (at + s.columns) (rows_from im sheet s count m (k + 1) h.next.0) ≡ over d at (rows_from im sheet s count n k p)
+  rows_turn count n m k p at row d e h w z q r f = rw z (rows_one count m k p at row d e h w q r f)
 
-  pub rows_done : (count left k p at : ℕ) (d : List ℕ) → left ≤ 1 → over d at (rows_from im sheet s count (left - 1) k p) ≡ d
+  pub rows_done : (count n k p at : ℕ) (d : List ℕ) → n ≡ 0 → over d at (rows_from im sheet s count n k p) ≡ d
   unfolding rows_from
-  rows_done count left k p at d h = let z : left - 1 ≡ 0 = omega arith in rw z (over_nil d at)
+  rows_done count n k p at d z = rw z (over_nil d at)
 
 -- the row's part of the picture, which comes back written
 pub lent_row : (d s : List ℕ) (at w : ℕ) → length s ≡ w → at + w ≤ length d → take at d ++ (s ++ drop (at + w - at) (drop at d)) ≡ over d at s
@@ -100,14 +98,8 @@ rows_sum c zero q = absurd (omega arith)
 rows_sum c (suc n) q = let z : suc n - 1 ≡ n = omega arith in rw z (omega arith)
 
 -- one row less
-pub rows_less : (c left at total : ℕ) → 1 < left → at + (left - 1) * c ≡ total → at + c + (left - 1 - 1) * c ≡ total
-rows_less c zero at total h e = absurd (omega arith)
-rows_less c (suc zero) at total h e = absurd (omega arith)
-rows_less c (suc (suc n)) at total h e =
-    let y : suc (suc n) - 1 ≡ suc n = omega arith in
-    let z : suc (suc n) - 1 - 1 ≡ n = omega arith in
-    let o : at + suc n * c ≡ total = rw y at e in
-    rw z (omega arith)
+pub rows_less : (c n m at total : ℕ) → n ≡ suc m → at + n * c ≡ total → at + c + m * c ≡ total
+rows_less c n m at total z e = let o : at + suc m * c ≡ total = rw z at e in omega arith
 
 -- a picture has columns x lines cells
 pub length_picture : (im sheet : List ℕ) (s : Session) → 4 ≤ s.columns → 1 ≤ s.lines → length (picture_of im sheet s) ≡ s.columns * s.lines

@@ -1,4 +1,3 @@
-pub mod Sized
 pub mod Lines
 pub mod Counting
 pub mod Filling

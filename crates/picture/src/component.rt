@@ -10,26 +10,24 @@ use session::session::{Mode, Session};
 use texts::row::put_all;
 use texts::text::{put_cells, put_field};
 
-// What the component at a place shows; the cells are those of the working copy.
+// What the component at a place shows.
 pub(crate) fn put_component(
     row: &mut [u8],
     at: usize,
     image: &[u8],
     sheet: &[u8],
-    session: Session,
-    cells: &[u32],
+    session: &Session,
     c: Component,
     place: usize,
 ) -> usize
-    requires { cells.now ≡ session.work.cells }
     ensures { Put row.old at
-        (component_text image.now sheet.now session place c) row.new result }
+        (component_text image.now sheet.now session.now place c) row.new result }
 {
     if !c.fielded {
         return put_all(row, at, string_bytes(image, place));
     }
     if visits(session.mode, place) {
-        return put_cells(row, at, image, place, c.field.kind, cells);
+        return put_cells(row, at, image, place, c.field.kind, &session.work.cells);
     }
     put_field(row, at, image, sheet, place, c.field)
 }

@@ -5,8 +5,9 @@ ghost use Rattle.laws.specs.Overwrite.{fit};
 ghost use Rattle.cmf.specs.Readers.{head_at};
 ghost use Rattle.cmf.specs.Places.{components_of, rest_of_line, first_editable};
 ghost use Rattle.texts.specs.Row.{Put};
-ghost use Rattle.texts.specs.Texts.{blank, star, colon};
+ghost use Rattle.texts.specs.Texts.{blank};
 ghost use Rattle.picture.specs.Rows.{greater, mark_of, data_text, submenu_mark, line_row};
+ghost use Rattle.picture.specs.Marks.{Tells, mark_by};
 
 use crate::component::put_component;
 use cmf::component::read_component;
@@ -14,29 +15,27 @@ use cmf::head::Head;
 use session::session::Session;
 use texts::row::{pad, put};
 
-// Where a line's data end, and its mark in row 0: whether a component is editable, or 0 where the row does
-// not tell.
+// Where a line's data end, and its mark in row 0, which says whether a component is editable, where the row
+// tells it.
 #[derive(Clone, Copy)]
 struct Marked {
     end: usize,
-    mark: u8,
+    mark: Option<u8>,
 }
 
 // The mark by one component more, which is the last of its line or not.
-fn mark_by(mark: u8, editable: bool, last: bool) -> u8
-    ensures { result
-        ≡ when mark =? 0 then (when editable then colon else when last then star else 0) else mark }
+fn mark_by(mark: Option<u8>, editable: bool, last: bool) -> Option<u8>
+    ensures { result ≡ mark_by mark editable last }
 {
-    if mark != 0 {
-        return mark;
+    if mark.is_some() {
+        mark
+    } else if editable {
+        Some(b':')
+    } else if last {
+        Some(b'*')
+    } else {
+        None
     }
-    if editable {
-        return b':';
-    }
-    if last {
-        return b'*';
-    }
-    0
 }
 
 // What the components from one on to the last of a line show; none is read that begins past the row's end.
@@ -45,20 +44,17 @@ fn put_data(
     start: usize,
     image: &[u8],
     sheet: &[u8],
-    session: Session,
-    cells: &[u32],
+    session: &Session,
     first: usize,
 ) -> Marked
-    requires { cells.now ≡ session.work.cells }
     ensures { Put
         row.old start
-        (data_text image.now sheet.now session (rest_of_line image.now first))
+        (data_text image.now sheet.now session.now (rest_of_line image.now first))
         row.new result.end
-        × ((result.mark ≡ 0 → ⊥)
-        → result.mark ≡ mark_of (first_editable image.now (rest_of_line image.now first))) }
+        × Tells result.mark (mark_of (first_editable image.now (rest_of_line image.now first))) }
 {
     let mut at = start;
-    let mut mark = 0;
+    let mut mark = None;
     let mut p = first;
     for _ in 0..image.len() + 1 {
         if row.len() <= at {
@@ -68,7 +64,7 @@ fn put_data(
             };
         }
         let c = read_component(image, p);
-        at = put_component(row, at, image, sheet, session, cells, c, p);
+        at = put_component(row, at, image, sheet, session, c, p);
         mark = mark_by(mark, c.editable, c.last);
         if c.last {
             return Marked { end: at, mark };
@@ -91,67 +87,54 @@ fn submenu_mark(h: Head) -> u8
     ensures { result ≡ submenu_mark h }
 {
     if h.protected {
-        return b'P';
+        b'P'
+    } else if h.submenu {
+        b'>'
+    } else {
+        b' '
     }
-    if h.submenu {
-        return b'>';
-    }
-    b' '
 }
 
-// The row of line k but for its last cell; answers the line's mark in row 0, or 0.
+// The row of line k but for its last cell; answers the line's mark in row 0, where the row tells it.
 fn put_start(
     row: &mut [u8],
     image: &[u8],
     sheet: &[u8],
-    session: Session,
-    cells: &[u32],
+    session: &Session,
     k: usize,
     first: usize,
-) -> u8
-    requires { cells.now ≡ session.work.cells }
-    ensures value { (result ≡ 0 → ⊥)
-        → result ≡ mark_of (first_editable image.now (rest_of_line image.now first)) }
+) -> Option<u8>
+    ensures value { Tells result (mark_of (first_editable image.now (rest_of_line image.now first))) }
     ensures row_after { row.new
         ≡ fit blank (length row.old)
-        ((when k =? session.here.cursor then greater else blank)
-        ∷ data_text image.now sheet.now session
+        ((when k =? session.now.here.cursor then greater else blank)
+        ∷ data_text image.now sheet.now session.now
         (rest_of_line image.now first)) }
 {
     let start = put(row, 0, cursor_mark(k, session.here.cursor));
-    let data = put_data(row, start, image, sheet, session, cells, first);
+    let data = put_data(row, start, image, sheet, session, first);
     pad(row, data.end);
     data.mark
 }
 
 // The row of line k, from 0, of the shown table; the line is at p, and its head is given. Answers its mark in
-// row 0, or 0.
+// row 0, where the row tells it.
 pub(crate) fn put_line(
     row: &mut [u8],
     image: &[u8],
     sheet: &[u8],
-    session: Session,
-    cells: &[u32],
+    session: &Session,
     k: usize,
     p: usize,
     h: Head,
-) -> u8
-    requires { (2 ≤ session.columns) × (length row.old ≡ session.columns)
-        × (cells.now ≡ session.work.cells) × (h ≡ head_at image.now p) }
-    ensures value { (result ≡ 0 → ⊥)
-        → result ≡ mark_of (first_editable image.now (components_of image.now p)) }
-    ensures row_after { row.new ≡ line_row image.now sheet.now session k p }
+) -> Option<u8>
+    requires { (2 ≤ session.now.columns) × (length row.old ≡ session.now.columns)
+        × (h ≡ head_at image.now p) }
+    ensures value { Tells result (mark_of (first_editable image.now (components_of image.now p))) }
+    ensures row_after { row.new ≡ line_row image.now sheet.now session.now k p }
 {
     let end = session.columns as usize - 1;
-    let mark = put_start(
-        &mut row[..end],
-        image,
-        sheet,
-        session,
-        cells,
-        k,
-        h.component.0,
-    );
+    let mark = put_start(&mut row[..end], image, sheet, session, k, h.component.0);
     row[end] = submenu_mark(h);
     mark
 }

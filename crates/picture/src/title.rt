@@ -1,28 +1,37 @@
 // Row 0: the title with its marks, or the password entry.
 ghost use Rattle.std.specs.Prelude.{◌≡◌, [], ◌∷◌, ◌++◌, ◌+◌, ◌-◌, ◌≤◌, length};
 ghost use Rattle.session.specs.Fits.{cursor_line};
-ghost use Rattle.cmf.specs.Places.{line_count};
 ghost use Rattle.laws.specs.Choice.{when◌then◌else◌, ◌=?◌};
 ghost use Rattle.laws.specs.Overwrite.{over};
 ghost use Rattle.laws.specs.Digits.{digit0};
 ghost use Rattle.texts.specs.Texts.{blank};
 ghost use Rattle.picture.specs.Rows.{edit_mark, line_number, more_mark, title_row, password_row, top_row};
+ghost use Rattle.picture.specs.Marks.{Tells, Enough};
 
 use cmf::head::read_head;
 use cmf::place::{first_editable};
 use cmf::text::text_bytes;
+use field::kind::ImagePlace;
 use laws::byte_at;
 use laws::digits::first_digit;
 use session::session::{Level, Mode, Session};
 use texts::row::{pad, put, put_all, repeat};
 
-// The cursor line of a level is at a place; its mark is given, or 0.
-fn edit_mark(image: &[u8], level: Level, line: usize, mark: u8) -> u8
-    requires { (line ≡ cursor_line image.now level)
-        × ((mark ≡ 0 → ⊥) → mark ≡ edit_mark image.now level) }
+// What is known of the shown table when its rows are written: how many lines it has, as far as they are
+// looked at, where one of them is, and its mark in row 0, where its row tells it.
+#[derive(Clone, Copy)]
+pub(crate) struct Known {
+    pub(crate) count: usize,
+    pub(crate) place: ImagePlace,
+    pub(crate) mark: Option<u8>,
+}
+
+// The cursor line of a level is at a place; its mark is given, where it is known.
+fn edit_mark(image: &[u8], level: Level, line: usize, mark: Option<u8>) -> u8
+    requires { (line ≡ cursor_line image.now level) × Tells mark (edit_mark image.now level) }
     ensures { result ≡ edit_mark image.now level }
 {
-    if mark != 0 {
+    if let Some(mark) = mark {
         return mark;
     }
     let h = read_head(image, line);
@@ -37,12 +46,12 @@ fn more_mark(count: usize, rows: usize, cursor: u8) -> u8
     ensures { result ≡ more_mark count rows cursor }
 {
     if count <= rows {
-        return b' ';
+        b' '
+    } else if cursor as usize + 1 == count {
+        b'!'
+    } else {
+        b'+'
     }
-    if cursor as usize + 1 == count {
-        return b'!';
-    }
-    b'+'
 }
 
 // The first cell of a line's number, by its tens.
@@ -70,31 +79,26 @@ fn put_marks(row: &mut [u8], at: usize, edit: u8, cursor: u8, more: u8)
     put(row, last, more);
 }
 
-// The title with the marks and the number of the cursor line, which is at a place; `count` lines are known,
-// enough for the mark of more lines.
-fn put_title(row: &mut [u8], image: &[u8], session: Session, count: usize, line: usize, mark: u8)
-    requires { (4 ≤ session.columns) × (length row.old ≡ session.columns) × (1 ≤ session.lines)
-        × (more_mark count (session.lines - 1) session.here.cursor
-        ≡ more_mark (line_count image.now session.here.table.0) (session.lines - 1)
-        session.here.cursor) × (line ≡ cursor_line image.now session.here)
-        × ((mark ≡ 0 → ⊥) → mark ≡ edit_mark image.now session.here) }
-    ensures { row.new ≡ title_row image.now session }
+// The title with the marks and the number of the cursor line.
+fn put_title(row: &mut [u8], image: &[u8], session: &Session, known: Known)
+    requires { (4 ≤ session.now.columns) × (length row.old ≡ session.now.columns) × (1 ≤ session.now.lines)
+        × Enough image.now session.now known }
+    ensures { row.new ≡ title_row image.now session.now }
 {
     let here = session.here;
     let columns = session.columns as usize;
-    let cursor = here.cursor;
     let rows = session.lines as usize - 1;
     let end = put_all(row, 0, text_bytes(image, here.table.0));
     pad(row, end);
-    let edit = edit_mark(image, here, line, mark);
-    let more = more_mark(count, rows, cursor);
-    put_marks(row, columns - 4, edit, cursor, more);
+    let edit = edit_mark(image, here, known.place.0, known.mark);
+    let more = more_mark(known.count, rows, here.cursor);
+    put_marks(row, columns - 4, edit, here.cursor, more);
 }
 
 // The row of a password entry with so many digits typed.
-fn put_password(row: &mut [u8], image: &[u8], session: Session, line: usize, typed: u8)
-    requires { (length row.old ≡ session.columns) × (line ≡ cursor_line image.now session.here) }
-    ensures { row.new ≡ password_row image.now session typed }
+fn put_password(row: &mut [u8], image: &[u8], session: &Session, line: usize, typed: u8)
+    requires { (length row.old ≡ session.now.columns) × (line ≡ cursor_line image.now session.now.here) }
+    ensures { row.new ≡ password_row image.now session.now typed }
 {
     let h = read_head(image, line);
     let digits = byte_at(image, h.password.0) as usize;
@@ -105,55 +109,14 @@ fn put_password(row: &mut [u8], image: &[u8], session: Session, line: usize, typ
     pad(row, end);
 }
 
-// Whether the entry of a password is open, and so many digits are typed.
-#[derive(Clone, Copy)]
-struct Entry {
-    open: bool,
-    typed: u8,
-}
-
-fn entry_of(image: &[u8], session: Session) -> Entry
-    ensures { top_row image.now session ≡ when result.open
-        then password_row image.now session result.typed
-        else title_row image.now session }
-{
-    let mode = session.mode;
-    match mode {
-        Mode::Browsing => Entry {
-            open: false,
-            typed: 0,
-        },
-        Mode::Visit(_) => Entry {
-            open: false,
-            typed: 0,
-        },
-        Mode::Password(n) => Entry {
-            open: true,
-            typed: n,
-        },
-    }
-}
-
 // Writes row 0.
-pub(crate) fn put_top(
-    row: &mut [u8],
-    image: &[u8],
-    session: Session,
-    count: usize,
-    line: usize,
-    mark: u8,
-)
-    requires { (4 ≤ session.columns) × (length row.old ≡ session.columns) × (1 ≤ session.lines)
-        × (more_mark count (session.lines - 1) session.here.cursor
-        ≡ more_mark (line_count image.now session.here.table.0) (session.lines - 1)
-        session.here.cursor) × (line ≡ cursor_line image.now session.here)
-        × ((mark ≡ 0 → ⊥) → mark ≡ edit_mark image.now session.here) }
-    ensures { row.new ≡ top_row image.now session }
+pub(crate) fn put_top(row: &mut [u8], image: &[u8], session: &Session, known: Known)
+    requires { (4 ≤ session.now.columns) × (length row.old ≡ session.now.columns) × (1 ≤ session.now.lines)
+        × Enough image.now session.now known }
+    ensures { row.new ≡ top_row image.now session.now }
 {
-    let entry = entry_of(image, session);
-    if entry.open {
-        put_password(row, image, session, line, entry.typed);
-        return;
+    match session.mode {
+        Mode::Password(typed) => put_password(row, image, session, known.place.0, typed),
+        Mode::Browsing | Mode::Visit(_) => put_title(row, image, session, known),
     }
-    put_title(row, image, session, count, line, mark);
 }

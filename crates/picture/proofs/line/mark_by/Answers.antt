@@ -1,16 +1,21 @@
 -- Each return is the case of the definition that the tests on its path choose.
-use mathlib.Core.Path.{sym, ◌∙◌}
-use Rattle.laws.proofs.Cases.{if_eq, if_ne, if_true, if_false}
+use Prim.Native.Nat.{ℕ}
+use mathlib.Core.Path.{◌≡◌, refl, sym, ◌∙◌}
+use mathlib.Core.Bool.{false}
+use Rattle.std.specs.Prelude.{Option, None, Some}
+use Rattle.std.specs.Option.{is_some}
+use Rattle.laws.proofs.Cases.{via, if_true, if_false}
 use Rattle.picture.proofs.line.mark_by.Goals as goal
 
-pub returns-then-mark-ne0 : goal.returns-then-mark-ne0
-returns-then-mark-ne0 c = sym (if_ne _ _ _ _ c.if-mark-ne0.true)
+none_is : (m : Option ℕ) → is_some m ≡ false → m ≡ None
+none_is None h = refl
+none_is (Some m) h = cc
 
 pub returns-then-editable : goal.returns-then-editable
-returns-then-editable c = sym (if_eq _ _ _ _ c.if-mark-ne0.false ∙ if_true _ _ c.if-editable.true)
+returns-then-editable c = rw (none_is c.args.mark (via c.is_some.ensures c.if-is_some.false)) (sym (if_true _ _ c.if-editable.true))
 
 pub returns-then-last : goal.returns-then-last
-returns-then-last c = sym (if_eq _ _ _ _ c.if-mark-ne0.false ∙ if_false _ _ c.if-editable.false ∙ if_true _ _ c.if-last.true)
+returns-then-last c = rw (none_is c.args.mark (via c.is_some.ensures c.if-is_some.false)) (sym (if_false _ _ c.if-editable.false ∙ if_true _ _ c.if-last.true))
 
-pub returns : goal.returns
-returns c = sym (if_eq _ _ _ _ c.if-mark-ne0.false ∙ if_false _ _ c.if-editable.false ∙ if_false _ _ c.if-last.false)
+pub returns-else-last : goal.returns-else-last
+returns-else-last c = rw (none_is c.args.mark (via c.is_some.ensures c.if-is_some.false)) (sym (if_false _ _ c.if-editable.false ∙ if_false _ _ c.if-last.false))

@@ -12,6 +12,6 @@ pub returns-then-h-2 : goal.returns-then-h-2
 unfolding submenu_mark
 returns-then-h-2 c = sym (if_false _ _ c.if-h.false ∙ if_true _ _ c.if-h-2.true)
 
-pub returns : goal.returns
+pub returns-else-h-2 : goal.returns-else-h-2
 unfolding submenu_mark
-returns c = sym (if_false _ _ c.if-h.false ∙ if_false _ _ c.if-h-2.false)
+returns-else-h-2 c = sym (if_false _ _ c.if-h.false ∙ if_false _ _ c.if-h-2.false)

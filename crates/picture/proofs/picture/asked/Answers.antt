@@ -3,7 +3,11 @@ use Rattle.picture.proofs.Knowing.{mark_known}
 use Rattle.picture.proofs.picture.asked.Goals as goal
 
 pub returns-then-here-k : goal.returns-then-here-k
-returns-then-here-k c = (mark_known _ _ _ c.args.k _ c.requires.1 c.requires.0 c.if-here-k.true, c.requires.2 c.if-here.true c.if-here-k.true, c.requires.3)
+returns-then-here-k c = record {
+  more = mark_known _ _ _ c.args.k _ c.requires.1 c.requires.0 c.if-here-k.true;
+  line = c.requires.2 c.if-here.true c.if-here-k.true;
+  mark = c.requires.3;
+}
 
 pub returns : goal.returns
-returns c = (rw c.line_count.ensures, c.cursor_line.ensures, c.requires.3)
+returns c = record { more = rw c.line_count.ensures; line = c.cursor_line.ensures; mark = c.requires.3 }

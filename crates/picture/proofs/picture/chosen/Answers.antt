@@ -4,7 +4,7 @@ use Rattle.laws.proofs.Cases.{if_eq, if_ne}
 use Rattle.picture.proofs.picture.chosen.Goals as goal
 
 pub returns-then-k-cursor : goal.returns-then-k-cursor
-returns-then-k-cursor c = sym (if_eq _ _ _ _ c.if-k-cursor.true)
+returns-then-k-cursor g c = sym (if_eq _ _ _ _ c.if-k-cursor.true)
 
 pub returns-else-k-cursor : goal.returns-else-k-cursor
-returns-else-k-cursor c = sym (if_ne _ _ _ _ c.if-k-cursor.false)
+returns-else-k-cursor g c = sym (if_ne _ _ _ _ c.if-k-cursor.false)

@@ -1,5 +1,5 @@
 -- Each return writes the case of the definition that the tests on its path choose; a blank row tells no mark.
-use mathlib.Core.Path.{refl, sym, ◌∙◌}
+use mathlib.Core.Path.{sym, ◌∙◌}
 use Rattle.laws.proofs.Cases.{if_lt, if_ge}
 use Rattle.texts.specs.Texts.{blank}
 use Rattle.picture.specs.Rows.{row_at}
@@ -12,4 +12,4 @@ returns-then-k-count c = record { value = c.put_line.ensures.value; row_after = 
 
 pub returns : goal.returns
 unfolding row_at
-returns c = record { value = λ n. absurd (n refl); row_after = all_blank blank c.args.row.now _ c.pad.ensures ∙ rw c.requires.1 (sym (if_ge _ _ _ _ c.if-k-count.false)) }
+returns c = record { value = tt; row_after = all_blank blank c.args.row.now _ c.pad.ensures ∙ rw c.requires.1 (sym (if_ge _ _ _ _ c.if-k-count.false)) }

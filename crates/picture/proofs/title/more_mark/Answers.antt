@@ -12,6 +12,6 @@ pub returns-then-cursor-count : goal.returns-then-cursor-count
 unfolding more_mark
 returns-then-cursor-count c = sym (if_gt _ _ _ _ c.if-count-rows.false ∙ if_eq _ _ _ _ c.if-cursor-count.true)
 
-pub returns : goal.returns
+pub returns-else-cursor-count : goal.returns-else-cursor-count
 unfolding more_mark
-returns c = sym (if_gt _ _ _ _ c.if-count-rows.false ∙ if_ne _ _ _ _ c.if-cursor-count.false)
+returns-else-cursor-count c = sym (if_gt _ _ _ _ c.if-count-rows.false ∙ if_ne _ _ _ _ c.if-cursor-count.false)

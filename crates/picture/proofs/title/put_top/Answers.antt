@@ -1,10 +1,12 @@
 -- Row 0 is that of the entry, or the title's.
-use mathlib.Core.Path.{sym, ◌∙◌}
-use Rattle.laws.proofs.Cases.{if_true, if_false}
+use Rattle.std.proofs.Common.{inl, inr}
+use Rattle.picture.specs.Rows.{top_row_in}
 use Rattle.picture.proofs.title.put_top.Goals as goal
 
-pub returns-then-entry : goal.returns-then-entry
-returns-then-entry c = c.put_password.ensures ∙ sym (c.entry_of-entry.ensures ∙ if_true _ _ c.if-entry.true)
+pub returns-in-Password : goal.returns-in-Password
+unfolding top_row_in
+returns-in-Password c = rw c.in-Password.is c.put_password.ensures
 
-pub returns : goal.returns
-returns c = c.put_title.ensures ∙ sym (c.entry_of-entry.ensures ∙ if_false _ _ c.if-entry.false)
+pub returns-in-Browsing : goal.returns-in-Browsing
+unfolding top_row_in
+returns-in-Browsing c = elim c.in-Browsing.is [ inl q ↦ rw q c.put_title.ensures | inr q ↦ rw q.1 c.put_title.ensures ]
