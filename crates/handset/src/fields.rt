@@ -5,14 +5,14 @@ ghost use Rattle.std.specs.Prelude.{◌≡◌, length, IfOk};
 ghost use Rattle.cmf.specs.Refusals.{refusal_in};
 ghost use Rattle.laws.specs.Overwrite.{fit};
 ghost use Rattle.cmf.specs.Limits.{most_fields};
-ghost use Rattle.cmf.specs.Places.{rest_of_line, held_by, table_reach, fields_among, fields_of};
+ghost use Rattle.cmf.specs.Places.{rest_of_line, table_reach, fields_among, fields_of};
 ghost use Rattle.acceptance.specs.Check.{refusal_of};
 ghost use Rattle.handset.specs.Fields.{places_listed};
 ghost use Rattle.handset.specs.Taking.{gathered, take_one, take_all};
 ghost use Rattle.handset.specs.Open.{defaults_written};
 
 use crate::refusal::check_image;
-use cmf::component::{Component, read_component};
+use cmf::component::read_component;
 use cmf::head::read_head;
 use cmf::image::Image;
 use cmf::refusal::Refusal;
@@ -26,86 +26,75 @@ pub struct FieldList {
     pub places: [usize; Image::MAX_FIELDS],
 }
 
-// Takes a field, with k places in the list before it; how many are in it then.
-fn take_field(f: Field, sheet: &mut [u8], k: usize, places: &mut [usize]) -> usize
-    ensures { gathered sheet.new result places.new
-        ≡ take_one f (gathered sheet.old k places.old) }
-{
-    f.write_default(sheet);
-    if k < places.len() {
-        places[k] = f.image.0;
-        return k + 1;
-    }
-    k
+// What the walk hands on: a lent sheet, and a lent list with the first `count` of its places set. Each method
+// ensures that both are still those that were lent.
+#[derive(Drop)]
+struct Gathering<'a> {
+    sheet: &'a mut [u8],
+    places: &'a mut [usize],
+    count: usize,
 }
 
-// The same with a component, if it is a field.
-fn take_component(c: Component, sheet: &mut [u8], k: usize, places: &mut [usize]) -> usize
-    ensures { gathered sheet.new result places.new
-        ≡ take_all (held_by c) (gathered sheet.old k places.old) }
-{
-    if c.fielded {
-        return take_field(c.field, sheet, k, places);
+impl<'a> Gathering<'a> {
+    // Takes a field: its default is written, and its place is the list's next, as long as there is room.
+    fn take(&mut self, f: Field)
+        ensures same_sheet { self.new.sheet.ghost_name ≡ self.old.sheet.ghost_name }
+        ensures same_places { self.new.places.ghost_name ≡ self.old.places.ghost_name }
+        ensures taken { gathered self.new.sheet.now self.new.count self.new.places.now
+            ≡ take_one f (gathered self.old.sheet.now self.old.count self.old.places.now) }
+    {
+        f.write_default(self.sheet);
+        if self.count < self.places.len() {
+            self.places[self.count] = f.image.0;
+            self.count += 1;
+        }
     }
-    k
-}
 
-// The same with the components of a line, the first of them at p.
-fn take_components(
-    image: &[u8],
-    p: usize,
-    sheet: &mut [u8],
-    k: usize,
-    places: &mut [usize],
-) -> usize
-    ensures { gathered sheet.new result places.new
-        ≡ take_all (fields_among image.now (rest_of_line image.now p))
-        (gathered sheet.old k places.old) }
-{
-    let mut count = k;
-    let mut at = p;
-    'components: for _ in 0..=image.len() {
-        let component = read_component(image, at);
-        count = take_component(component, sheet, count, places);
-        if component.last {
-            return count;
+    // Takes those of a line's components that are fields; the first component is at a place.
+    fn take_line(&mut self, image: &[u8], component: usize)
+        ensures same_sheet { self.new.sheet.ghost_name ≡ self.old.sheet.ghost_name }
+        ensures same_places { self.new.places.ghost_name ≡ self.old.places.ghost_name }
+        ensures taken { gathered self.new.sheet.now self.new.count self.new.places.now
+            ≡ take_all (fields_among image.now (rest_of_line image.now component))
+            (gathered self.old.sheet.now self.old.count self.old.places.now) }
+    {
+        let mut at = component;
+        for _ in 0..=image.len() {
+            let c = read_component(image, at);
+            if c.fielded {
+                self.take(c.field);
+            }
+            if c.last {
+                return;
+            }
+            at = c.next.0;
         }
-        at = component.next.0;
     }
-    count
-}
 
-// The same with the table at a place; `left` levels are left, its own among them.
-fn take_table(
-    image: &[u8],
-    left: usize,
-    at: usize,
-    sheet: &mut [u8],
-    k: usize,
-    places: &mut [usize],
-) -> usize
-    ensures { gathered sheet.new result places.new
-        ≡ take_all (fields_among image.now (table_reach image.now left at))
-        (gathered sheet.old k places.old) }
-{
-    if left == 0 {
-        return k;
-    }
-    let below = left - 1;
-    let mut count = k;
-    let mut p = read_title(image, at).line.0;
-    'lines: for _ in 0..=Image::MAX_TABLE_LINES {
-        let h = read_head(image, p);
-        count = take_components(image, h.component.0, sheet, count, places);
-        if h.submenu {
-            count = take_table(image, below, h.table.0, sheet, count, places);
+    // Takes those of the table at a place; `left` levels are left, its own among them.
+    fn take_table(&mut self, image: &[u8], left: usize, table: usize)
+        ensures same_sheet { self.new.sheet.ghost_name ≡ self.old.sheet.ghost_name }
+        ensures same_places { self.new.places.ghost_name ≡ self.old.places.ghost_name }
+        ensures taken { gathered self.new.sheet.now self.new.count self.new.places.now
+            ≡ take_all (fields_among image.now (table_reach image.now left table))
+            (gathered self.old.sheet.now self.old.count self.old.places.now) }
+    {
+        if left == 0 {
+            return;
         }
-        if h.last {
-            return count;
+        let mut line = read_title(image, table).line.0;
+        for _ in 0..=Image::MAX_TABLE_LINES {
+            let h = read_head(image, line);
+            self.take_line(image, h.component.0);
+            if h.submenu {
+                self.take_table(image, left - 1, h.table.0);
+            }
+            if h.last {
+                return;
+            }
+            line = h.next.0;
         }
-        p = h.next.0;
     }
-    count
 }
 
 // Writes the default of each field of an image.
@@ -113,8 +102,12 @@ pub(crate) fn write_defaults(image: &[u8], sheet: &mut [u8])
     ensures { sheet.new ≡ defaults_written (fields_of image.now)
         sheet.old }
 {
-    let mut none = [0usize; 0];
-    take_table(image, Image::MAX_DEPTH, Image::PROLOG, sheet, 0, &mut none);
+    let mut all = Gathering {
+        sheet,
+        places: &mut [],
+        count: 0,
+    };
+    all.take_table(image, Image::MAX_DEPTH, Image::PROLOG);
 }
 
 // The fields of an image, for a sheet of so many bytes.
@@ -124,15 +117,13 @@ pub fn list_fields(image: &[u8], extent: usize) -> Result<FieldList, Refusal>
         × (l.places ≡ fit 0 most_fields (places_listed image.now extent))) }
 {
     check_image(image, extent)?;
-    let mut none = [0u8; 0];
     let mut places = [0usize; Image::MAX_FIELDS];
-    let count = take_table(
-        image,
-        Image::MAX_DEPTH,
-        Image::PROLOG,
-        &mut none,
-        0,
-        &mut places,
-    );
+    let mut all = Gathering {
+        sheet: &mut [],
+        places: &mut places,
+        count: 0,
+    };
+    all.take_table(image, Image::MAX_DEPTH, Image::PROLOG);
+    let count = all.count;
     Ok(FieldList { count, places })
 }

@@ -3,27 +3,28 @@ use Prim.Native.Nat.{ℕ, zero, suc, ◌+◌, ◌-◌, ◌≤◌, ◌<◌}
 use mathlib.Core.Path.{◌≡◌, refl, sym, ap, ◌∙◌}
 use mathlib.Core.Bool.{Bool, true, false}
 use mathlib.Core.List.{List, [], ◌∷◌, ◌++◌}
+use Rattle.std.specs.Prelude.{Option, None, Some}
 use native.Mathlib.Omega.{arith}
 use lib.ListN.{length, take, drop, set, replicate, length-take, length-drop}
 use Rattle.laws.specs.Choice.{when◌then◌else◌, ◌=?◌}
 use Rattle.laws.specs.Bytes.{byte_at}
 use Rattle.laws.specs.Overwrite.{fit, over}
 use Rattle.laws.proofs.Overwriting.{length_fit}
-use borrow.Author.Tests.{eqb-true, eqb-false}
-use Rattle.laws.proofs.Cases.{if_true, if_false, if_eq, if_ne, by_test}
+use borrow.Author.Tests.{eqb-true}
+use Rattle.laws.proofs.Cases.{if_ind, if_true, if_false, by_test}
+use Rattle.field.specs.declared.kind.ImagePlace.{ImagePlace}
 use Rattle.cmf.specs.Readers.{text_bytes, head_at, component_at}
 use Rattle.cmf.specs.Places.{components_from, components_of, line_at, line_count, rest_of_line, first_editable}
 use Rattle.cmf.specs.declared.head.Head.{Head}
 use Rattle.cmf.specs.declared.component.Component.{Component}
 use Rattle.session.specs.Fits.{cursor_line, cursor_head}
-use Rattle.field.specs.declared.kind.ImagePlace.{ImagePlace}
-use Rattle.std.specs.Prelude.{Option}
 use Rattle.cmf.proofs.Finding.{editable_here, editable_last, editable_next}
 use Rattle.session.specs.declared.session.Level.{Level}
 use Rattle.session.specs.declared.session.Session.{Session}
 use Rattle.texts.specs.Row.{Put}
 use Rattle.texts.specs.Texts.{blank, star, colon, cells_text, field_text}
 use Rattle.picture.specs.Rows.{greater, mark_of, edit_mark, line_number, more_mark, title_row, dot, prompt, password_row, visiting, component_text, data_text, submenu_mark, line_row}
+use Rattle.picture.specs.Marks.{Tells, mark_by}
 use Rattle.texts.proofs.Writing.{Rest, put_then, same, rest_step, rest_end, padded, over_tail}
 
 -- ---- what one component shows
@@ -118,46 +119,43 @@ module _ (im : List ℕ) (l : Level) (h : Head) (f : Option ImagePlace) (e : h �
 
 -- ---- the mark of a line in row 0, as its row tells it
 
-module _ (im : List ℕ) (left p : ℕ) (c : Component) (all : Option ImagePlace) (mark r : ℕ) (l : 0 < left) (e : c ≡ component_at im p)
-    (before : mark ≡ 0 → first_editable im (components_from im left p) ≡ all) (cursor_place : (mark ≡ 0 → ⊥) → mark ≡ mark_of all)
-    (q : r ≡ (when mark =? 0 then (when c.editable then colon else when c.last then star else 0) else mark)) where
-  here_editable : mark ≡ 0 → c.editable ≡ true → r ≡ mark_of all
-  here_editable z a = q ∙ if_eq mark 0 _ _ z ∙ if_true _ _ a ∙ rw (sym (before z) ∙ editable_here im left p c l e a)
+module _ (im : List ℕ) (left p : ℕ) (c : Component) (all : ℕ) (l : 0 < left) (e : c ≡ component_at im p) where
+  module _ (before : mark_of (first_editable im (components_from im left p)) ≡ all) where
+    here_told : Tells (mark_by None c.editable c.last) all
+    here_told =
+        if_ind (λ (o : Option ℕ). Tells o all) c.editable
+        (λ a. sym (ap mark_of (editable_here im left p c l e a)) ∙ before)
+        (λ a. if_ind (λ (o : Option ℕ). Tells o all) c.last
+        (λ b. sym (ap mark_of (editable_last im left p c l e a b)) ∙ before)
+        (λ b. tt))
 
-  here_last : mark ≡ 0 → c.editable ≡ false → c.last ≡ true → r ≡ mark_of all
-  here_last z a b = q ∙ if_eq mark 0 _ _ z ∙ if_false _ _ a ∙ if_true _ _ b ∙ rw (sym (before z) ∙ editable_last im left p c l e a b)
+    here_next : c.last ≡ false → mark_by None c.editable c.last ≡ None → mark_of (first_editable im (components_from im (left - 1) c.next.0)) ≡ all
+    here_next b =
+        by_test c.editable
+        (λ a y. let o : Some colon ≡ None = sym (if_true _ _ a) ∙ y in cc)
+        (λ a y. ap mark_of (editable_next im left p c l e a b) ∙ before)
 
-  here_none : mark ≡ 0 → c.editable ≡ false → c.last ≡ false → r ≡ 0
-  here_none z a b = q ∙ if_eq mark 0 _ _ z ∙ if_false _ _ a ∙ if_false _ _ b
+  pub mark_told : (mark : Option ℕ) → (mark ≡ None → mark_of (first_editable im (components_from im left p)) ≡ all) → Tells mark all
+      → Tells (mark_by mark c.editable c.last) all
+  mark_told None before told = here_told (before refl)
+  mark_told (Some m) before told = told
 
-  pub mark_told : (r ≡ 0 → ⊥) → r ≡ mark_of all
-  mark_told n =
-      by_test (mark =? 0)
-      (λ h. let z = eqb-true mark 0 h in
-      by_test c.editable (λ a. here_editable z a) (λ a. by_test c.last (λ b. here_last z a b) (λ b. absurd (n (here_none z a b)))))
-      (λ h. let k = eqb-false mark 0 h in q ∙ if_ne mark 0 _ _ k ∙ cursor_place k)
-
-  pub mark_next : c.last ≡ false → r ≡ 0 → first_editable im (components_from im (left - 1) c.next.0) ≡ all
-  mark_next b y =
-      by_test (mark =? 0)
-      (λ h. let z = eqb-true mark 0 h in
-      by_test c.editable (λ a. let o : colon ≡ 0 = sym (q ∙ if_eq mark 0 _ _ z ∙ if_true _ _ a) ∙ y in absurd (omega arith))
-      (λ a. editable_next im left p c l e a b ∙ before z))
-      (λ h. absurd (eqb-false mark 0 h (sym (q ∙ if_ne mark 0 _ _ (eqb-false mark 0 h)) ∙ y)))
+  pub mark_next : (mark : Option ℕ) → (mark ≡ None → mark_of (first_editable im (components_from im left p)) ≡ all) → c.last ≡ false
+      → mark_by mark c.editable c.last ≡ None → mark_of (first_editable im (components_from im (left - 1) c.next.0)) ≡ all
+  mark_next None before b y = here_next (before refl) b y
+  mark_next (Some m) before b y = cc
 
 -- of the line that the cursor is on
-pub mark_turn : (im : List ℕ) (l : Level) (k p mark other r : ℕ) → p ≡ line_at im l.table.0 k → r ≡ (when k =? l.cursor then mark else other)
-    → ((mark ≡ 0 → ⊥) → mark ≡ mark_of (first_editable im (components_of im p))) → ((other ≡ 0 → ⊥) → other ≡ edit_mark im l) → (r ≡ 0 → ⊥) → r ≡ edit_mark im l
+pub mark_turn : (im : List ℕ) (l : Level) (k p : ℕ) (mark other : Option ℕ) → p ≡ line_at im l.table.0 k
+    → Tells mark (mark_of (first_editable im (components_of im p))) → Tells other (edit_mark im l) → Tells (when k =? l.cursor then mark else other) (edit_mark im l)
 unfolding edit_mark
-mark_turn im l k p mark other r e q f g n =
-    by_test (k =? l.cursor)
-    (λ h. let o : r ≡ mark = q ∙ if_true _ _ h in
-    let z : p ≡ cursor_line im l = e ∙ ap (λ (i : ℕ). line_at im l.table.0 i) (eqb-true k l.cursor h) in
-    o ∙ f (λ y. n (o ∙ y)) ∙ ap (λ (i : ℕ). mark_of (first_editable im (components_of im i))) z)
-    (λ h. let o : r ≡ other = q ∙ if_false _ _ h in o ∙ g (λ y. n (o ∙ y)))
+mark_turn im l k p mark other e f g =
+    if_ind (λ (o : Option ℕ). Tells o (mark_of (first_editable im (components_of im (cursor_line im l))))) (k =? l.cursor)
+    (λ h. let z : p ≡ cursor_line im l = e ∙ ap (λ (i : ℕ). line_at im l.table.0 i) (eqb-true k l.cursor h) in rw z at f)
+    (λ h. g)
 
-pub line_marked : (im : List ℕ) (p mark : ℕ) (h : Head) → h ≡ head_at im p
-    → ((mark ≡ 0 → ⊥) → mark ≡ mark_of (first_editable im (components_from im (length im + 1) h.component.0))) → (mark ≡ 0 → ⊥)
-    → mark ≡ mark_of (first_editable im (components_of im p))
+pub line_marked : (im : List ℕ) (p : ℕ) (mark : Option ℕ) (h : Head) → h ≡ head_at im p
+    → Tells mark (mark_of (first_editable im (components_from im (length im + 1) h.component.0)))
+    → Tells mark (mark_of (first_editable im (components_of im p)))
 unfolding components_of
-line_marked im p mark h e f n = f n ∙ rw e
+line_marked im p mark h e f = rw e at f
