@@ -1,5 +1,5 @@
 // The quick walk: it tells an image without fault by a few tests on its bytes, and leaves every other to the
-// check.
+// check. A function that answers None is in doubt.
 #![tactic(auto)]
 
 pub mod accept;

@@ -6,7 +6,8 @@ ghost use Rattle.quick.specs.Accept.{headed};
 use crate::tally::Tally;
 use field::kind::ImagePlace;
 
-// In the line at a place, which has n lines of its table before it. Done: all its components are passed.
+// In the line at a place, which has n lines of its table before it. Done: all its components are passed, and
+// the tally is that at the line's end.
 #[derive(Clone, Copy)]
 pub struct Position {
     pub tally: Tally,
