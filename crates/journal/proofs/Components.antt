@@ -17,8 +17,9 @@ use Rattle.cmf.specs.Readers.{tag_bit, texts_from, fixed_bytes, text_count, give
 use Rattle.cmf.specs.Places.{components_from, rest_of_line, first_editable, next_editable, is_in}
 use Rattle.cmf.specs.declared.component.Component.{Component}
 use Rattle.cmf.specs.declared.text.Run.{Run}
-use Rattle.std.specs.Prelude.{Option}
-use Rattle.std.specs.Prelude.{Some, None}
+use Rattle.std.specs.Prelude.{Option, Some, None}
+use Rattle.cmf.specs.declared.refusal.Refusal.{Refusal}
+use Rattle.cmf.specs.declared.refusal.Refusal.TheVariants as fault
 use Rattle.cmf.proofs.Onward.{component_onward}
 use Rattle.acceptance.proofs.Parts.{places_last, places_more}
 use Rattle.acceptance.proofs.Turns.{turns_more}
@@ -27,7 +28,7 @@ use Rattle.acceptance.proofs.Turns.{turns_more}
 
 module _ (im : List ℕ) (c : ℕ) where
   -- what a property of the reader's three results comes to
-  pub by_reading : (P : Component → Type 0) → ((k : ℕ) → P (component_refused im c k))
+  pub by_reading : (P : Component → Type 0) → ((r : Refusal) → P (component_refused im c r))
       → ((code tag end : ℕ) (t : Run) → given im c code (tag_bit 32 tag) t ≡ true → P (component_read im c code tag end)) → P (component_at im c)
   unfolding component_at component_by laid_out
   by_reading P bad good =
@@ -36,8 +37,8 @@ module _ (im : List ℕ) (c : ℕ) where
       (λ _. let t : Run = texts_from im (text_count im c (byte_at im c % 32)) (c + fixed_bytes (byte_at im c % 32) (tag_bit 32 (byte_at im c))) 0 in
       if_ind P (room (length im) c (fixed_bytes (byte_at im c % 32) (tag_bit 32 (byte_at im c))))
       (λ _. if_ind P t.fits
-      (λ _. if_ind P (given im c (byte_at im c % 32) (tag_bit 32 (byte_at im c)) t) (λ g. good _ _ _ t g) (λ _. bad 7)) (λ _. bad 6)) (λ _. bad 6)) (λ _. bad 7))
-      (λ _. bad 6)
+      (λ _. if_ind P (given im c (byte_at im c % 32) (tag_bit 32 (byte_at im c)) t) (λ g. good _ _ _ t g) (λ _. bad fault.Form)) (λ _. bad fault.Cut)) (λ _. bad fault.Cut)) (λ _. bad fault.Form))
+      (λ _. bad fault.Cut)
 
   -- a field is named by the place where it is read
   pub own_place : (component_at im c).field.image.0 ≡ c

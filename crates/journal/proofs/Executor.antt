@@ -15,7 +15,7 @@ use Rattle.field.specs.Values.{bytes_of}
 use Rattle.field.specs.Cells.{finished}
 use Rattle.field.specs.Sheet.{own_bytes, begun, finished_in}
 use Rattle.field.specs.declared.kind.Kind.{Kind}
-use Rattle.field.specs.declared.kind.Kind.TheVariants.{Integer, Counter, Time, Date, Switch, Option, Trigger}
+use Rattle.field.specs.declared.kind.Kind.TheVariants as kinds
 use Rattle.field.specs.declared.kind.ImagePlace.{ImagePlace}
 use Rattle.field.specs.declared.record.Field.{Field}
 use Rattle.field.specs.declared.work.Work.{Work}
@@ -87,14 +87,14 @@ pressed_says k w e =
 -- 01's count of ENTERs is one more than the parts of the visit
 opener_parts : (k : Kind) → opener_of k ≡ suc (parts_in (profile_of k))
 unfolding opener_of parts_in profile_of when◌then◌else◌
-opener_parts (Integer f) = refl
-opener_parts (Counter s) = refl
-opener_parts (Time true) = refl
-opener_parts (Time false) = refl
-opener_parts (Date long) = refl
-opener_parts (Switch n) = refl
-opener_parts (Option n w) = refl
-opener_parts Trigger = refl
+opener_parts (kinds.Integer f) = refl
+opener_parts (kinds.Counter s) = refl
+opener_parts (kinds.Time true) = refl
+opener_parts (kinds.Time false) = refl
+opener_parts (kinds.Date long) = refl
+opener_parts (kinds.Switch n) = refl
+opener_parts (kinds.Option n w) = refl
+opener_parts kinds.Trigger = refl
 
 -- the working copy of a visit that fits is legal, but for a trigger's
 pub work_legal : (k : Kind) (w : Work) → work_fits k w ≡ true → (profile_of k).fires ≡ false → Legal k w

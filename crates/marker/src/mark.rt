@@ -9,6 +9,7 @@ use crate::key::Question;
 use crate::table::{enter_all, take_out};
 use crate::verdict::Verdict;
 use cmf::image::Image;
+use cmf::refusal::Refusal;
 use field::kind::SheetPlace;
 use handset::fields::list_fields;
 use laws::byte_at;
@@ -19,9 +20,6 @@ pub enum Marked {
     Sums { right: u32, wrong: u32, blank: u32 },
     Refused(u8),
 }
-
-// A key that does not fit the image's fields.
-pub const NO_KEY: u8 = 15;
 
 // The points counted so far.
 #[derive(Clone, Copy)]
@@ -110,13 +108,13 @@ fn mark_all(table: &mut [u16], sheet: &[u8], key: &[u16]) -> Marked
         };
         let number = take_out(table, q.place);
         if !fits(q, number) {
-            return Marked::Refused(NO_KEY);
+            return Marked::Refused(Refusal::Key.number());
         }
         tally = tally.with(judge(q, number, sheet), q.points);
         rest = after;
     }
     if !rest.is_empty() {
-        return Marked::Refused(NO_KEY);
+        return Marked::Refused(Refusal::Key.number());
     }
     tally.sums()
 }
@@ -127,10 +125,10 @@ pub fn mark(image: &[u8], sheet: &[u8], key: &[u16]) -> Marked
     ensures result_value { refusal_in result
         ≡ mark_refusal image.now (length sheet.now) key.now }
 {
-    let fields = list_fields(image, sheet.len());
-    if fields.refusal != 0 {
-        return Marked::Refused(fields.refusal);
-    }
+    let fields = match list_fields(image, sheet.len()) {
+        Ok(fields) => fields,
+        Err(refusal) => return Marked::Refused(refusal.number()),
+    };
     let (places, _) = fields.places.split_at(fields.count);
     let mut table = [0u16; Image::MAX_SHEET];
     enter_all(image, places, &mut table);

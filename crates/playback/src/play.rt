@@ -4,9 +4,9 @@ ghost use Rattle.std.specs.Prelude.{◌≡◌, length};
 ghost use Rattle.playback.specs.Replay.{listed, refused_replay, play_answer, play_sheet, play_list};
 
 use crate::events::play_events;
+use cmf::refusal::Refusal;
 use handset::open::open;
 use record::reading::{Checked, check_record};
-use record::refusal::NO_ROOM;
 use session::session::Session;
 
 // The refusal number, 0 for none; how many events were played; and the session after them, closed where the
@@ -38,7 +38,7 @@ pub fn check_listed(recorded: &[u8], room: usize) -> Checked
     }
     if room < checked.events {
         return Checked {
-            refusal: NO_ROOM,
+            refusal: Refusal::Room.number(),
             events: 0,
             start: 0,
         };

@@ -13,6 +13,7 @@ use Rattle.laws.specs.Parts.{part_at}
 use Rattle.laws.proofs.Cases.{if_ind, if_true, if_eq, by_test, and_l, and_r}
 use Rattle.laws.proofs.Rooms.{room_le, le_room}
 use Rattle.cmf.specs.Limits.{longest_password}
+use Rattle.cmf.specs.declared.refusal.Refusal.{Refusal}
 use Rattle.cmf.specs.Readers.{tag_bit, texts_from, password_fits, text_bytes, options_end, passwords, head_refused, head_read, head_by, head_at}
 use Rattle.cmf.specs.declared.head.Head.{Head}
 use Rattle.cmf.specs.declared.text.Run.{Run}
@@ -55,8 +56,8 @@ module _ (im : List ℕ) where
 
   module _ (p : ℕ) where
     -- a head that is refused has no password, and of one that is read both are tested
-    refused_guarded : (k : ℕ) → Guarded im (head_refused p k)
-    refused_guarded k = record { guarded = λ e g. absurd (false≢true e); submenu = λ e. absurd (false≢true e) }
+    refused_guarded : (r : Refusal) → Guarded im (head_refused p r)
+    refused_guarded r = record { guarded = λ e g. absurd (false≢true e); submenu = λ e. absurd (false≢true e) }
 
     read_guarded : (tag end : ℕ) → (texts_from im (passwords tag) (options_end p tag) 0).fits ≡ true → Guarded im (head_read im p tag end)
     read_guarded tag end f = record {

@@ -15,6 +15,9 @@ use Rattle.handset.specs.Refusals.{◌unless◌}
 use Rattle.handset.proofs.Ordering.{first_given, next_given, holding, failing, none_before, none_unless}
 use Rattle.record.specs.Numbers.{number_at, on_read, numbers_at, end_after}
 use Rattle.record.specs.Forms.{are_events, on_head, is_sequence, events_refusal, record_refusal, events_of, start_of, checked}
+use Rattle.cmf.specs.Refusals.{number}
+use Rattle.cmf.specs.declared.refusal.Refusal.{Refusal}
+use Rattle.cmf.specs.declared.refusal.Refusal.TheVariants as fault
 use Rattle.record.specs.Heads.{head_of, refused_record, events_checked}
 use Rattle.record.specs.declared.reading.Checked.{Checked}
 
@@ -77,14 +80,14 @@ head_both g a o f b p h s =
     rw (head_whole a o f s form at e one n next k, head_whole b p h s form at e one n next k, head_whole (g a b) (g o p) (λ n at. g (f n at) (h n at)) s form at e one n next k))
 
 -- what goes on from a head that the code has read
-goes_on : {A : Type 0} → (ℕ → A) → (ℕ → ℕ → A) → Result (ℕ × ℕ) ℕ → A
-goes_on r f (Err k) = r k
+goes_on : {A : Type 0} → (ℕ → A) → (ℕ → ℕ → A) → Result (ℕ × ℕ) Refusal → A
+goes_on r f (Err k) = r (number k)
 goes_on r f (Ok (n, at)) = f n at
 
 goes_on_lem : {A : Type 0} (r : ℕ → A) (f : ℕ → ℕ → A) (s : List ℕ) → goes_on r f (head_of s) ≡ on_head (r 16) (r 17) f s
 unfolding head_of goes_on
 goes_on_lem r f s =
-    head_both (λ (x : Result (ℕ × ℕ) ℕ) (y : ℕ). goes_on r f x) (Err 16) (Err 17) (λ n at. Ok (n, at)) 0 0 (λ n at. 0) s
+    head_both (λ (x : Result (ℕ × ℕ) Refusal) (y : ℕ). goes_on r f x) (Err fault.Record) (Err fault.OtherForm) (λ n at. Ok (n, at)) 0 0 (λ n at. 0) s
 
 -- ---- the events
 
@@ -207,7 +210,7 @@ module _ (s : List ℕ) where
   unfolding when◌then◌else◌
   whole = checked_on ∙ sym (goes_on_lem refused_record (λ n at. events_checked n s at) s)
 
-  pub checked_refused : (k : ℕ) (c : Checked) → head_of s ≡ Err k → c ≡ refused_record k → c ≡ checked s
+  pub checked_refused : (k : Refusal) (c : Checked) → head_of s ≡ Err k → c ≡ refused_record (number k) → c ≡ checked s
   unfolding goes_on
   checked_refused k c e h = h ∙ sym (whole ∙ ap (goes_on refused_record (λ n at. events_checked n s at)) e)
 

@@ -5,4 +5,3 @@
 pub mod number;
 pub mod reading;
 pub mod recording;
-pub mod refusal;

@@ -1,12 +1,12 @@
 // Reading: a record is looked through before any of its events is played.
 ghost use Rattle.std.specs.Prelude.{◌≡◌};
+ghost use Rattle.cmf.specs.Refusals.{number, refusal_in};
 ghost use Rattle.record.specs.Forms.{events_refusal, checked};
 ghost use Rattle.record.specs.Heads.{head_of, refused_record, events_checked};
 
 use crate::number::read_number;
 use crate::recording::FORM_1;
-use crate::refusal::{NO_RECORD, OTHER_FORM};
-use handset::refusal::NO_EVENT;
+use cmf::refusal::Refusal;
 use session::session::Session;
 
 // The refusal number, 0 for none; the number of events, and the place of the first, 0 where the record is
@@ -18,54 +18,53 @@ pub struct Checked {
     pub start: usize,
 }
 
-fn refused(refusal: u8) -> Checked
-    ensures { result ≡ refused_record refusal }
+fn refused(refusal: Refusal) -> Checked
+    ensures { result ≡ refused_record (number refusal) }
 {
     Checked {
-        refusal,
+        refusal: refusal.number(),
         events: 0,
         start: 0,
     }
 }
 
 // The number of events and the place after it, or why the record is refused before any event.
-fn read_head(bytes: &[u8]) -> Result<(usize, usize), u8>
+fn read_head(bytes: &[u8]) -> Result<(usize, usize), Refusal>
     ensures { result ≡ head_of bytes.now }
 {
-    let (form, at) = read_number(bytes, 0).ok_or(NO_RECORD)?;
+    let (form, at) = read_number(bytes, 0).ok_or(Refusal::Record)?;
     if form != FORM_1 {
-        return Err(OTHER_FORM);
+        return Err(Refusal::OtherForm);
     }
-    let (count, start) = read_number(bytes, at).ok_or(NO_RECORD)?;
+    let (count, start) = read_number(bytes, at).ok_or(Refusal::Record)?;
     Ok((count as usize, start))
 }
 
-// The refusal number, 0 for none, of so many numbers from a place on, which must end the bytes. Broken rules
-// come before a bad event, wherever they are, so that all numbers are read.
-fn scan(bytes: &[u8], at: usize, count: usize) -> u8
-    ensures { result ≡ events_refusal count bytes.now at }
+// So many numbers from a place on, which must end the bytes. Broken rules come before a bad event, wherever
+// they are, so that all numbers are read.
+fn scan(bytes: &[u8], at: usize, count: usize) -> Result<(), Refusal>
+    ensures { refusal_in result ≡ events_refusal count bytes.now at }
 {
     let mut next = at;
     let mut known = true;
     for _ in 0..count {
         let Some((x, behind)) = read_number(bytes, next) else {
-            return NO_RECORD;
+            return Err(Refusal::Record);
         };
         known = known && x <= Session::SECOND as u16;
         next = behind;
     }
     if next != bytes.len() {
-        return NO_RECORD;
+        return Err(Refusal::Record);
     }
-    if known { 0 } else { NO_EVENT }
+    if known { Ok(()) } else { Err(Refusal::Event) }
 }
 
 // Looks the events of a record through, so many from a place on.
 fn check_events(bytes: &[u8], start: usize, count: usize) -> Checked
     ensures { result ≡ events_checked count bytes.now start }
 {
-    let refusal = scan(bytes, start, count);
-    if refusal != 0 {
+    if let Err(refusal) = scan(bytes, start, count) {
         return refused(refusal);
     }
     Checked {

@@ -1,10 +1,10 @@
 // Recording: a lent list of events is written as a record to lent room.
 ghost use Rattle.std.specs.Prelude.{◌≡◌, length};
+ghost use Rattle.cmf.specs.Refusals.{number};
 ghost use Rattle.record.specs.Forms.{are_events, recorded, recorded_in};
 
 use crate::number::{group_count, write_number};
-use crate::refusal::{NO_RECORD, NO_ROOM};
-use handset::refusal::NO_EVENT;
+use cmf::refusal::Refusal;
 use laws::put_bytes;
 use session::session::Session;
 
@@ -21,10 +21,13 @@ pub const FORM_1: u16 = 1;
 // The most events that a record can state.
 pub const MAX_EVENTS: usize = 65535;
 
-fn refused(refusal: u8) -> Recorded
-    ensures { result ≡ record { refusal = refusal; length = 0 } }
+fn refused(refusal: Refusal) -> Recorded
+    ensures { result ≡ record { refusal = number refusal; length = 0 } }
 {
-    Recorded { refusal, length: 0 }
+    Recorded {
+        refusal: refusal.number(),
+        length: 0,
+    }
 }
 
 // Whether all of a list are events.
@@ -41,14 +44,14 @@ pub fn record(events: &[u8], room: &mut [u8]) -> Recorded
 {
     let n = events.len();
     if MAX_EVENTS < n {
-        return refused(NO_RECORD);
+        return refused(Refusal::Record);
     }
     if !are_events(events) {
-        return refused(NO_EVENT);
+        return refused(Refusal::Event);
     }
     let length = 1 + group_count(n as u16) + n;
     if room.len() < length {
-        return refused(NO_ROOM);
+        return refused(Refusal::Room);
     }
     let at = write_number(room, 0, FORM_1);
     let start = write_number(room, at, n as u16);
