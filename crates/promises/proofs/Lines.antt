@@ -6,6 +6,7 @@ use mathlib.Core.List.{List}
 use borrow.Author.Tests.{eq-eqb}
 use Rattle.laws.specs.Choice.{◌=?◌}
 use Rattle.field.specs.declared.record.Field.{Field}
+use Rattle.cmf.specs.Refusals.{refusal_number}
 use Rattle.cmf.specs.Grammar.{WellFormed}
 use Rattle.cmf.specs.Readers.{component_at}
 use Rattle.cmf.proofs.Agreeing.{agree}
@@ -21,7 +22,7 @@ bit_told true n one none = sym (eq-eqb n 1 (one refl))
 bit_told false n one none = rw (none refl)
 
 module _ (im : List ℕ) where
-  component_agrees : (c : ℕ) → (component_at im c).refusal ≡ 0 → ComponentAgrees im c
+  component_agrees : (c : ℕ) → refusal_number (component_at im c).refusal ≡ 0 → ComponentAgrees im c
   component_agrees c o =
       let r = (agree im).component_reads c o in
       record { is = r.component; next = r.next; last = bit_told _ _ r.last r.more; editable = r.editable }

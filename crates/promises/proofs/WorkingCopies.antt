@@ -29,6 +29,9 @@ use Rattle.field.proofs.Legal.{Legal, legal_bool}
 use Rattle.field.proofs.Ranges.{range_of_trigger}
 use Rattle.keys.proofs.Kept.{up_legal, down_legal, left_legal, right_legal, digit_legal, enter_legal}
 use Rattle.field.proofs.Trip.{started_legal}
+use Rattle.std.specs.Prelude.{Some, None}
+use Rattle.cmf.specs.Refusals.{refusal_number}
+use Rattle.cmf.specs.declared.refusal.Refusal.TheVariants as fault
 use Rattle.cmf.specs.Readers.{kind_at, field_by, component_at}
 use Rattle.cmf.specs.declared.component.Component.{Component}
 use Rattle.session.specs.Events.{up, down, left, right, enter, last_digit_key}
@@ -108,7 +111,7 @@ pub record Ready (f : Field) : Type 0 where
   pub default : in_range f.kind (number_of f.default) ≡ true
 
 -- settings are tested where a component reads without fault
-no_fault : (t : Bool) → ◌≡◌ {A = ℕ} (when t then 0 else 9) 0 → t ≡ true
+no_fault : (t : Bool) → refusal_number (when t then None else Some fault.Setting) ≡ 0 → t ≡ true
 unfolding when◌then◌else◌
 no_fault true h = refl
 no_fault false h = absurd (omega arith)
@@ -124,9 +127,9 @@ unfolding kind_at kind_fits when◌then◌else◌
 trigger_ready im p = record { cell = trigger_celled.cell refl; default = range_of_trigger _ }
 
 -- so a component that reads without fault holds one: what is no field of ours counts as a trigger
-pub component_ready : (im : List ℕ) (p : ℕ) → (component_at im p).refusal ≡ 0 → Ready (component_at im p).field
+pub component_ready : (im : List ℕ) (p : ℕ) → refusal_number (component_at im p).refusal ≡ 0 → Ready (component_at im p).field
 component_ready im p =
-    by_reading im p (λ (x : Component). x.refusal ≡ 0 → Ready x.field) (λ k z. trigger_ready im p)
+    by_reading im p (λ (x : Component). refusal_number x.refusal ≡ 0 → Ready x.field) (λ k z. trigger_ready im p)
     (λ code tag end t g z. settings_ready im p code (no_fault (settings_fit (kind_at im p code) (field_by im p code).default) z))
 
 -- ---- working copies

@@ -15,8 +15,8 @@ pub returns-then-not-fits : goal.returns-then-not-fits
 returns-then-not-fits c =
     let a = c.args in
     let l = c.loop-rest in
-    stopped a.table.now a.sheet.now a.key.now
-    (sym (stops_here _ _ _ l.tally _ _ c.in-len3-up.len_at_least refl c.take_out-number.ensures.value (sym c.fits.ensures ∙ c.if-not-fits.true)) ∙ l.invariant.marks)
+    rw c.number.ensures (stopped a.table.now a.sheet.now a.key.now
+    (sym (stops_here _ _ _ l.tally _ _ c.in-len3-up.len_at_least refl c.take_out-number.ensures.value (sym c.fits.ensures ∙ c.if-not-fits.true)) ∙ l.invariant.marks))
 
 pub judge-requires : goal.judge-requires
 judge-requires c = (fits_open _ _ (sym c.fits.ensures ∙ c.if-not-fits.false)).0
@@ -37,8 +37,8 @@ loop-rest-preserved c =
 pub returns-then-not-is_empty : goal.returns-then-not-is_empty
 returns-then-not-is_empty c =
     let l = c.loop-rest in
-    some_over c.args.table.now c.args.sheet.now c.args.key.now l.table l.rest.now l.tally c.in_default.len_below l.invariant.over
-    (eqb-false _ 0 (sym c.is_empty.ensures ∙ c.if-not-is_empty.true))
+    rw c.number-then-not-is_empty.ensures (some_over c.args.table.now c.args.sheet.now c.args.key.now l.table l.rest.now l.tally c.in_default.len_below l.invariant.over
+    (eqb-false _ 0 (sym c.is_empty.ensures ∙ c.if-not-is_empty.true)))
 
 pub returns : goal.returns
 returns c =
