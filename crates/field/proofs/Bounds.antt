@@ -1,9 +1,10 @@
 -- Bounds of the numbers in the tables, and that every numeral is sound: integers and switches are computed within them.
-use Prim.Native.Nat.{ℕ, ◌/◌, ◌^◌, ◌≤◌, ◌<◌}
+use Prim.Native.Nat.{ℕ, zero, suc, ◌+◌, ◌*◌, ◌/◌, ◌%◌, ◌^◌, ◌≤◌, ◌<◌}
 use mathlib.Core.Path.{◌≡◌, refl}
 use mathlib.Core.Bool.{Bool, true, false}
 use native.Mathlib.Omega.{arith}
-use native.Mathlib.Nat.{pow-le-pow_left, pow-le-pow_right, one-le-pow}
+use native.Mathlib.Nat.{pow-le-pow_left, pow-le-pow_right, one-le-pow, one-mul, mod-eq_of_lt, pow-suc}
+use lib.Pow.{pow-add}
 use lib.Dec.{lit≤}
 use borrow.Author.Tests.{ltb-true, leb-true, leb-false}
 use Rattle.laws.specs.Choice.{when◌then◌else◌, ◌<?◌, ◌≤?◌}
@@ -99,6 +100,24 @@ top_fits f =
     let b : base_of f ^ digits_in f ≤ 16 ^ digits_in f = pow-le-pow_left (base_le f) (digits_in f) in
     let d : 16 ^ digits_in f ≤ 16 ^ 5 = pow-le-pow_right (lit≤ tt) (digits_le f) in
     omega arith
+
+-- a shift makes a power of 2
+pub shifted : (n : ℕ) → n ≤ 32 → (1 * 2 ^ n) % 18446744073709551616 ≡ 2 ^ n
+shifted n h =
+    let p : 2 ^ n ≤ 2 ^ 32 = pow-le-pow_right (lit≤ tt) h in
+    rw one-mul (mod-eq_of_lt (omega arith))
+
+pub shifted_short : (n : ℕ) → n < 32 → (1 * 2 ^ n) % 4294967296 ≡ 2 ^ n
+shifted_short n h =
+    let p : 2 ^ n ≤ 2 ^ 31 = pow-le-pow_right (lit≤ tt) {i = n} {j = 31} (omega arith) in
+    rw one-mul (mod-eq_of_lt (omega arith))
+
+-- a hexadecimal digit has four bits
+pub four_bits : (n : ℕ) → 2 ^ (4 * n) ≡ 16 ^ n
+four_bits zero = refl
+four_bits (suc n) =
+    let e : 4 * suc n ≡ 4 * n + 4 = omega arith in
+    rw (e, pow-add 2 (4 * n) 4, pow-suc 16 n, four_bits n)
 
 -- what the bits can show fits 32 bits
 pub power_fits : (n : ℕ) → 2 ^ bits_in n ≤ 4294967296

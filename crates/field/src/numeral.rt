@@ -1,5 +1,5 @@
 // Numbers in digits: how a number is made up of cells, for every integer format and for switches.
-ghost use Rattle.std.specs.Prelude.{◌≡◌, ◌+◌, ◌≤◌, ◌<◌, length};
+ghost use Rattle.std.specs.Prelude.{◌≡◌, ◌+◌, ◌^◌, ◌≤◌, ◌<◌, length};
 ghost use Rattle.laws.specs.Choice.{when◌then◌else◌};
 ghost use Rattle.laws.specs.Digits.{digits_of};
 ghost use Rattle.laws.specs.Overwrite.{over};
@@ -11,7 +11,7 @@ ghost use Rattle.field.specs.Sound.{Sound, Based};
 
 use crate::kind::{Format, Kind};
 use crate::work::Work;
-use laws::digits::{first_digit, lowest_digits};
+use laws::digits::{first_digit, lowest_digits, power_of_ten};
 
 // Sign cells, digit cells, base; the range, from `below` below 0 to `above` above it; how many numbers its
 // bytes can hold.
@@ -69,7 +69,12 @@ impl Format {
     fn top(self) -> u64
         ensures { result ≡ top_of self }
     {
-        self.base().pow(self.digits_in() as u32) - 1
+        let digits = self.digits_in();
+        if self.hex {
+            (1 << (4 * digits)) - 1
+        } else {
+            power_of_ten(digits) as u64 - 1
+        }
     }
 
     pub fn numeral(self) -> Numeral
@@ -128,15 +133,15 @@ pub(crate) fn bits_in(n: u8) -> u8
     n.min(Kind::MAX_BITS)
 }
 
-// Writes count digits of x to a base that is a power of 2, the last to start + count - 1.
-fn write_binary<const BASE: u32>(cells: &mut [u32], start: u8, count: u8, x: u32)
-    requires { (0 < BASE) × (start + count ≤ length cells.old) }
-    ensures { cells.new ≡ over cells.old start (digits_of BASE count x) }
+// Writes count digits of x, each of so many bits, the last to start + count - 1.
+fn write_binary<const BITS: u32>(cells: &mut [u32], start: u8, count: u8, x: u32)
+    requires { (BITS < 32) × (start + count ≤ length cells.old) }
+    ensures { cells.new ≡ over cells.old start (digits_of (2 ^ BITS) count x) }
 {
     let mut rest = x;
     for left in (0..count).rev() {
-        cells[start as usize + left as usize] = rest % BASE;
-        rest /= BASE;
+        cells[start as usize + left as usize] = rest & ((1 << BITS) - 1);
+        rest >>= BITS;
     }
 }
 
@@ -160,8 +165,8 @@ fn write_digits(cells: &mut [u32], start: u8, count: u8, base: u64, x: u32)
 {
     match base {
         10 => write_decimal(cells, start, count, x),
-        16 => write_binary::<16>(cells, start, count, x),
-        _ => write_binary::<2>(cells, start, count, x),
+        16 => write_binary::<4>(cells, start, count, x),
+        _ => write_binary::<1>(cells, start, count, x),
     }
 }
 
@@ -175,7 +180,7 @@ impl Numeral {
             signs: 0,
             digits,
             base: 2,
-            above: 2u64.pow(digits as u32) - 1,
+            above: (1 << digits) - 1,
             below: 0,
             limit: 4294967296,
         }

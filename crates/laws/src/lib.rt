@@ -47,12 +47,14 @@ pub fn has_triple(count: usize, k: usize) -> bool
     k <= most && k <= most - k && k <= most - k - k
 }
 
-// Copies bytes to a place; where they do not fit nothing changes.
+// Copies bytes to a place; where they do not fit nothing changes. The loop is no call of memmove, which the
+// library for C would have to import.
 pub fn put_bytes(s: &mut [u8], at: usize, bytes: &[u8])
     ensures { s.new ≡ put_at at bytes.now s.old }
 {
-    let n = bytes.len();
-    if room(s, at, n) {
-        s[at..at + n].copy_from_slice(bytes);
+    if room(s, at, bytes.len()) {
+        for (i, byte) in bytes.iter().enumerate() {
+            s[at + i] = *byte;
+        }
     }
 }
