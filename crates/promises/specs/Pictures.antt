@@ -39,7 +39,8 @@ pub record DataCell (s : Session) (row column : ℕ) : Type 0 where
 pub record DrawPromises (im sheet : List ℕ) (s : Session) (picture : List ℕ) : Type 0 where
   -- the edit cursor lies inside the picture, on a data cell
   pub cursor_inside : (row column : ℕ)
-      → draw_cursor im (length sheet) s (length picture) ≡ cursor_place (Some (record { row = row; column = column }))
+      → draw_cursor im (length sheet) s (length picture)
+      ≡ cursor_place (Some (record { row = row; column = column }))
       → DataCell s row column
   -- a visit has one
   pub cursor_there : draw_refusal im (length sheet) s (length picture) ≡ 0

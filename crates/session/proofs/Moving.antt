@@ -5,18 +5,13 @@ use mathlib.Core.Bool.{true, false}
 use mathlib.Core.List.{List}
 use Rattle.laws.specs.Choice.{◌<?◌}
 use Rattle.laws.proofs.Cases.{if_true, if_false}
-use Rattle.field.specs.Sheet.{begun}
-use Rattle.field.specs.declared.kind.ImagePlace.{ImagePlace}
-use Rattle.field.specs.declared.work.Work.{Work}
-use Rattle.cmf.specs.Readers.{component_at}
 use Rattle.cmf.specs.Places.{components_of, line_count, rest_of_line, first_editable}
-use Rattle.cmf.specs.declared.component.Component.{Component}
 use Rattle.cmf.specs.declared.head.Head.{Head}
+use Rattle.field.specs.declared.kind.ImagePlace.{ImagePlace}
 use Rattle.std.specs.Prelude.{Option}
 use Rattle.session.specs.Fits.{cursor_head}
-use Rattle.session.specs.Answers.{taken, flash, in_mode, in_entry}
-use Rattle.session.specs.Browsing.{cursor_on, down_step, descended, right_step, visit_at, enter_at, enter_step}
-use Rattle.session.specs.declared.session.Mode.TheVariants as mode
+use Rattle.session.specs.Answers.{taken, flash, in_entry}
+use Rattle.session.specs.Browsing.{cursor_on, down_step, descended, right_step, enter_at, enter_step}
 use Rattle.session.specs.declared.session.Session.{Session}
 use Rattle.session.specs.declared.answer.Stepped.{Stepped}
 
@@ -44,13 +39,7 @@ module _ (im : List ℕ) (s : Session) where
     unfolding right_step
     right_none a f = f ∙ sym (rw (← e) (if_false _ _ a))
 
--- ---- visits
-
-pub visit_is : (im sheet : List ℕ) (s r : Session) (p : ImagePlace) (c : Component) (w : Work) → c ≡ component_at im p.0 → w ≡ begun c.field sheet
-    → r ≡ in_mode s (mode.Visit p) w s.typed → r ≡ visit_at im sheet s p
-visit_is im sheet s r p c w e f g = g ∙ rw (f, e)
-
--- by what is found on the cursor line
+-- ---- visits, by what is found on the cursor line
 pub enter_is : (im sheet : List ℕ) (s : Session) (h : Head) (f : Option ImagePlace) (r : Stepped) → h ≡ cursor_head im s.here
     → f ≡ first_editable im (rest_of_line im h.component.0) → r ≡ enter_at im sheet s f → r ≡ enter_step im sheet s
 unfolding enter_step components_of cursor_head

@@ -45,6 +45,6 @@ pub(crate) fn write_place(bytes: &mut [u8], at: usize, x: u64)
     requires { at + 8 ≤ length bytes.old }
     ensures { bytes.new ≡ over bytes.old at (low_first 8 x) }
 {
-    write_cell(&mut *bytes, at, (x % 4294967296) as u32);
-    write_cell(&mut *bytes, at + 4, (x / 4294967296) as u32);
+    write_cell(bytes, at, (x % 4294967296) as u32);
+    write_cell(bytes, at + 4, (x / 4294967296) as u32);
 }

@@ -8,6 +8,3 @@ returns-then-here-k c = record {
   line = c.requires.2 c.if-here.true c.if-here-k.true;
   mark = c.requires.3;
 }
-
-pub returns : goal.returns
-returns c = record { more = rw c.line_count.ensures; line = c.cursor_line.ensures; mark = c.requires.3 }

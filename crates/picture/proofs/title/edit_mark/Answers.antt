@@ -4,9 +4,6 @@ use Rattle.session.proofs.Stepping.{head_there}
 use Rattle.picture.proofs.Lines.{mark_is}
 use Rattle.picture.proofs.title.edit_mark.Goals as goal
 
-pub returns-in-Some : goal.returns-in-Some
-returns-in-Some c = rw c.in-Some.is at c.requires.1
-
 pub returns-in-Some-f : goal.returns-in-Some-f
 returns-in-Some-f c = mark_is _ _ _ _ (head_there _ c.args.level _ _ c.read_head-h.result refl c.requires.0 c.read_head-h.ensures) c.first_editable-f.ensures (rw c.in-Some-f.is)
 

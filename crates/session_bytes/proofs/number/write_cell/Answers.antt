@@ -1,17 +1,7 @@
 -- Four stores inside.
 use native.Mathlib.Omega.{arith}
-use lib.ListN.{length-set}
 use Rattle.session_bytes.proofs.Numbers.{four_low}
 use Rattle.session_bytes.proofs.number.write_cell.Goals as goal
-
-pub bounds-bytes-at-2 : goal.bounds-bytes-at-2
-bounds-bytes-at-2 c = simp length-set (omega arith)
-
-pub bounds-bytes-at-3 : goal.bounds-bytes-at-3
-bounds-bytes-at-3 c = simp length-set (omega arith)
-
-pub bounds-bytes-at-4 : goal.bounds-bytes-at-4
-bounds-bytes-at-4 c = simp length-set (omega arith)
 
 pub returns : goal.returns
 returns c = four_low c.args.bytes.now c.args.at c.args.x (omega arith)
