@@ -95,8 +95,9 @@ impl Session {
     {
         let work = pressed.work;
         match pressed.outcome {
-            Outcome::Taken | Outcome::NextPart => self.in_visit(place, work).taken(),
+            Outcome::Taken => self.in_visit(place, work).taken(),
             Outcome::Flash => self.flash(),
+            Outcome::NextPart => self.in_visit(place, work).taken(),
             Outcome::Done => self.finish(image, sheet, place, field, work),
             Outcome::Fired => Stepped {
                 session: self,

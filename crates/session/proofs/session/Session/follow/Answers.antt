@@ -1,18 +1,18 @@
 -- Each outcome has its case.
-use Rattle.std.proofs.Common.{inl, inr}
 use Rattle.session.specs.Visits.{followed, followed_sheet}
 use Rattle.session.proofs.session.Session.follow.Goals as goal
 
 pub returns-in-Taken : goal.returns-in-Taken
 unfolding followed followed_sheet
-returns-in-Taken c = elim c.in-Taken.is [
-  | inl p ↦ record { value = simp (c.taken.ensures, c.in_visit.ensures, p); sheet_after = simp p }
-  | inr p ↦ record { value = simp (c.taken.ensures, c.in_visit.ensures, p); sheet_after = simp p }
-]
+returns-in-Taken c = record { value = simp (c.taken.ensures, c.in_visit.ensures, c.in-Taken.is); sheet_after = simp c.in-Taken.is }
 
 pub returns-in-Flash : goal.returns-in-Flash
 unfolding followed followed_sheet
 returns-in-Flash c = record { value = simp (c.flash.ensures, c.in-Flash.is); sheet_after = simp c.in-Flash.is }
+
+pub returns-in-NextPart : goal.returns-in-NextPart
+unfolding followed followed_sheet
+returns-in-NextPart c = record { value = simp (c.taken-in-NextPart.ensures, c.in_visit-in-NextPart.ensures, c.in-NextPart.is); sheet_after = simp c.in-NextPart.is }
 
 pub returns-in-Done : goal.returns-in-Done
 unfolding followed followed_sheet
