@@ -1,14 +1,26 @@
 // The answers of the calls as numbers.
 ghost use Rattle.std.specs.Prelude.{◌≡◌, ◌<◌};
 ghost use Rattle.picture.specs.Cursor as cursor_at;
+ghost use Rattle.cmf.specs.Refusals.{refusal_in};
 ghost use Rattle.binding.specs.Answers.{refused_by, cursor_number};
 
+use cmf::refusal::Refusal;
 use picture::cursor::EditCursor;
 use session::answer::Answer;
 
 pub const CURSOR: u32 = 65536;
 
 pub const REFUSED: u32 = Answer::REFUSED;
+
+// The number of what a test refuses, 0 for none.
+pub(crate) fn number_in(tested: Result<(), Refusal>) -> u8
+    ensures { result ≡ refusal_in tested }
+{
+    match tested {
+        Ok(()) => 0,
+        Err(refusal) => refusal.number(),
+    }
+}
 
 // The number of a refusal, 0 for none.
 pub(crate) fn refused_by(refusal: u8) -> u32

@@ -8,12 +8,13 @@ ghost use Rattle.handset.specs.Open.{open_refusal};
 ghost use Rattle.handset.specs.Event.{event_step, event_sheet};
 ghost use Rattle.handset.specs.Draw.{drawn_picture};
 
-use crate::answer::{REFUSED, cursor_number, refused_by};
+use crate::answer::{REFUSED, cursor_number, number_in, refused_by};
+use cmf::refusal::Refusal;
 use field::kind::ImagePlace;
 use handset::draw::draw;
 use handset::open::open;
 use handset::option::text_place;
-use handset::refusal::{NO_SHAPE, refusal_of, session_refusal};
+use handset::refusal::check_sitting;
 use session::fits::shape_fits;
 use session::session::Session;
 use session_bytes::layout::SIZE;
@@ -29,21 +30,17 @@ const PLACE: u64 = 65536;
 pub(crate) fn byte_of(n: u32) -> u8
     ensures { result ≡ min n 255 }
 {
-    if n < 255 {
-        return n as u8;
-    }
-    255
+    u8::try_from(n).unwrap_or(255)
 }
 
 // The refusal of an Open whose session would not fit its buffer: 1, 2 to 11, then 12.
 pub(crate) fn unsized_refusal(image: &[u8], extent: usize, columns: u8, lines: u8) -> u8
     ensures { result ≡ open_refusal image.now extent columns lines before 12 }
 {
-    let shape = shape_fits(columns, lines);
-    if !shape {
-        return NO_SHAPE;
+    if !shape_fits(columns, lines) {
+        return Refusal::Shape.number();
     }
-    session_refusal(refusal_of(image, extent), image, Session::closed())
+    number_in(check_sitting(image, extent, Session::closed()))
 }
 
 #[unsafe(no_mangle)]
@@ -70,9 +67,8 @@ pub extern "C" fn handset_open(
     if session.len() != SIZE {
         return REFUSED + unsized_refusal(image, sheet.len(), across, down) as u32;
     }
-    let opened = open(image, &mut *sheet, across, down);
-    let first = opened.session;
-    write_session(&mut *session, first);
+    let opened = open(image, sheet, across, down);
+    write_session(session, opened.session);
     refused_by(opened.refusal)
 }
 
@@ -123,12 +119,10 @@ pub extern "C" fn handset_draw(
         picture.old }
 {
     let shown = read_session(session);
-    let drawn = draw(image, sheet, shown, &mut *picture);
-    let refusal = drawn.refusal;
-    if refusal != 0 {
-        return refused_by(refusal);
+    match draw(image, sheet, shown, picture) {
+        Ok(cursor) => cursor_number(cursor),
+        Err(refusal) => refused_by(refusal.number()),
     }
-    cursor_number(drawn.cursor)
 }
 
 #[unsafe(no_mangle)]

@@ -10,10 +10,10 @@ ghost use Rattle.binding.specs.Desk.{play_number, played_sheet, played_list, pla
 
 use crate::answer::{REFUSED, refused_by};
 use crate::calls::{byte_of, unsized_refusal};
+use cmf::refusal::Refusal;
 use marker::mark::{Marked, mark};
 use playback::play::{check_listed, play};
 use record::recording::record;
-use record::refusal::NO_ROOM;
 use session_bytes::layout::SIZE;
 use session_bytes::write::write_session;
 
@@ -29,7 +29,7 @@ fn give(sums: &mut [u32], right: u32, wrong: u32, blank: u32) -> u32
         sums[2] = blank;
         return 0;
     }
-    REFUSED + NO_ROOM as u32
+    REFUSED + Refusal::Room.number() as u32
 }
 
 #[unsafe(no_mangle)]

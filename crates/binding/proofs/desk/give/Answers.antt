@@ -8,4 +8,4 @@ pub returns-then-sums-eq3 : goal.returns-then-sums-eq3
 returns-then-sums-eq3 c = record { value = sym (if_eq _ 3 _ _ c.if-sums-eq3.true); sums_after = three_set c.args.sums.now _ _ _ c.if-sums-eq3.true ∙ sym (if_eq _ 3 _ _ c.if-sums-eq3.true) }
 
 pub returns : goal.returns
-returns c = record { value = sym (if_ne _ 3 _ _ c.if-sums-eq3.false); sums_after = sym (if_ne _ 3 _ _ c.if-sums-eq3.false) }
+returns c = record { value = rw c.number.ensures (sym (if_ne _ 3 _ _ c.if-sums-eq3.false)); sums_after = sym (if_ne _ 3 _ _ c.if-sums-eq3.false) }
