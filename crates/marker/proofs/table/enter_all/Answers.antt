@@ -3,9 +3,6 @@ use mathlib.Core.Path.{sym, ◌∙◌}
 use Rattle.marker.proofs.Tables.{entered_last, entered_none}
 use Rattle.marker.proofs.table.enter_all.Goals as goal
 
-pub loop-place-init : goal.loop-place-init
-loop-place-init c = cc (c.into_iter-place-iterator.ensures.into_iter_gives, c.rev-place-items.ensures.source, c.iter.ensures.rest)
-
 pub loop-place-preserved : goal.loop-place-preserved
 loop-place-preserved c = sym (entered_last _ _ _ _ _ c.in-Some.ensures.steps c.read_component.ensures c.enter.ensures) ∙ c.loop-place.invariant
 

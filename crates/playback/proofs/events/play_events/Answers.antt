@@ -1,10 +1,7 @@
 -- The loop's invariant: nothing is refused from here on, and what is left to play and to note gives the whole.
-use mathlib.Core.Path.{refl, ◌∙◌}
+use mathlib.Core.Path.{◌∙◌}
 use Rattle.playback.proofs.Turns.{unrefused_next, played_next, noted_next, played_whole}
 use Rattle.playback.proofs.events.play_events.Goals as goal
-
-pub loop-i-init : goal.loop-i-init
-loop-i-init c = record { good = c.requires.unrefused; plays = refl; notes = refl }
 
 pub loop-i-preserved : goal.loop-i-preserved
 loop-i-preserved c =
