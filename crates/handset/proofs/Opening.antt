@@ -28,25 +28,22 @@ module _ (im : List ℕ) (columns lines : ℕ) where
   unfolding open_sheet
   sheet_kept s k e h = sym (rw e (if_ne k 0 _ _ h))
 
-  shapeless : (n : ℕ) → shape_fits columns lines ≡ false → open_refusal im n columns lines ≡ 1
+  pub shapeless : (n : ℕ) → shape_fits columns lines ≡ false → open_refusal im n columns lines ≡ 1
   unfolding open_refusal
   shapeless n h = rw (failing 1 (shape_fits columns lines) h) (first_given 1 _ (λ z. omega arith))
 
-  shaped : (n k : ℕ) → shape_fits columns lines ≡ true → k ≡ refusal_of im n → open_refusal im n columns lines ≡ k
+  pub shaped : (n k : ℕ) → shape_fits columns lines ≡ true → k ≡ refusal_of im n → open_refusal im n columns lines ≡ k
   unfolding open_refusal
   shaped n k h e = next_given _ _ (holding 1 (shape_fits columns lines) h) ∙ sym e
 
-  pub bad_shape : (s : List ℕ) → shape_fits columns lines ≡ false
-      → (answer 1 closed ≡ open_answer im (length s) columns lines) × (s ≡ open_sheet im s columns lines)
-  bad_shape s h = (by_refusal (length s) 1 (shapeless (length s) h) (λ z. omega arith), sheet_kept s 1 (shapeless (length s) h) (λ z. omega arith))
-
-  pub bad_image : (s : List ℕ) (k : ℕ) → shape_fits columns lines ≡ true → k ≡ refusal_of im (length s) → (k ≡ 0 → ⊥)
+  -- refused, and not
+  pub rejected : (s : List ℕ) (k : ℕ) → k ≡ open_refusal im (length s) columns lines → (k ≡ 0 → ⊥)
       → (answer k closed ≡ open_answer im (length s) columns lines) × (s ≡ open_sheet im s columns lines)
-  bad_image s k h e b = let r = shaped (length s) k h e in (by_refusal (length s) k r b, sheet_kept s k r b)
+  rejected s k e b = (by_refusal (length s) k (sym e) b, sheet_kept s k (sym e) b)
 
-  pub accepted : (s t : List ℕ) (k : ℕ) → shape_fits columns lines ≡ true → k ≡ refusal_of im (length s) → k ≡ 0 → t ≡ defaults_written (fields_of im) s
+  pub accepted : (s t : List ℕ) → 0 ≡ open_refusal im (length s) columns lines → t ≡ defaults_written (fields_of im) s
       → (answer 0 (opened columns lines) ≡ open_answer im (length s) columns lines) × (t ≡ open_sheet im s columns lines)
   unfolding open_answer open_sheet
-  accepted s t k h e z d =
-      let r : open_refusal im (length s) columns lines ≡ 0 = shaped (length s) k h e ∙ z in
+  accepted s t e d =
+      let r = sym e in
       (rw (r, if_eq 0 0 (opened columns lines) closed refl), d ∙ sym (rw r (if_eq 0 0 _ _ refl)))

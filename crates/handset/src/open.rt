@@ -1,8 +1,8 @@
 // The call Open: checks image and sheet, writes each field's default, and gives a session.
 ghost use Rattle.std.specs.Prelude.{◌≡◌, length};
-ghost use Rattle.cmf.specs.Refusals.{number};
+ghost use Rattle.cmf.specs.Refusals.{number, refusal_in};
 ghost use Rattle.session.specs.Session.{closed};
-ghost use Rattle.handset.specs.Open.{open_answer, open_sheet};
+ghost use Rattle.handset.specs.Open.{open_refusal, open_answer, open_sheet};
 
 use crate::fields::write_defaults;
 use crate::refusal::check_image;
@@ -26,19 +26,28 @@ fn refused(refusal: Refusal) -> Opened
     }
 }
 
+// The display's shape, and then image and sheet.
+fn check_open(image: &[u8], extent: usize, columns: u8, lines: u8) -> Result<(), Refusal>
+    ensures { refusal_in result ≡ open_refusal image.now extent columns lines }
+{
+    if !shape_fits(columns, lines) {
+        return Err(Refusal::Shape);
+    }
+    check_image(image, extent)
+}
+
 pub fn open(image: &[u8], sheet: &mut [u8], columns: u8, lines: u8) -> Opened
     ensures value { result ≡ open_answer image.now (length sheet.old) columns lines }
     ensures sheet_after { sheet.new ≡ open_sheet image.now sheet.old columns lines }
 {
-    if !shape_fits(columns, lines) {
-        return refused(Refusal::Shape);
-    }
-    if let Err(refusal) = check_image(image, sheet.len()) {
-        return refused(refusal);
-    }
-    write_defaults(image, sheet);
-    Opened {
-        refusal: 0,
-        session: Session::opened(columns, lines),
+    match check_open(image, sheet.len(), columns, lines) {
+        Ok(()) => {
+            write_defaults(image, sheet);
+            Opened {
+                refusal: 0,
+                session: Session::opened(columns, lines),
+            }
+        }
+        Err(refusal) => refused(refusal),
     }
 }
