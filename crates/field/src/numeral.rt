@@ -94,28 +94,25 @@ impl Format {
     }
 }
 
-// What `numeral` gives by an integer's code: how far the range goes above 0, how far below it, and how many
-// numbers the bytes hold.
-const RANGES: [(usize, usize, usize); 11] = [
-    (99, 0, 256),
-    (255, 0, 256),
-    (255, 0, 256),
-    (99, 99, 256),
-    (127, 128, 256),
-    (999, 0, 65536),
-    (9999, 0, 65536),
-    (65535, 0, 65536),
-    (65535, 0, 65536),
-    (999, 999, 65536),
-    (9999, 9999, 65536),
-];
+// The ranges that `numeral` gives, by an integer's code: how far each goes above 0, and how far below it.
+const ABOVE: [usize; 11] = [99, 255, 255, 99, 127, 999, 9999, 65535, 65535, 999, 9999];
+
+const BELOW: [usize; 11] = [0, 0, 0, 99, 128, 0, 0, 0, 0, 999, 9999];
+
+// How many numbers the bytes of an integer's code hold.
+fn code_limit(code: usize) -> usize
+    requires { code ≤ 0x0a }
+    ensures { result ≡ limit_of (format_of code) }
+{
+    if code < 5 { 256 } else { 65536 }
+}
 
 fn code_spans(code: usize, x: usize) -> bool
     requires { code ≤ 0x0a }
     ensures { result ≡ spans (numeral_of (format_of code)) x }
 {
-    let (above, below, limit) = RANGES[code];
-    x <= above || (limit - below <= x && x < limit)
+    let limit = code_limit(code);
+    x <= ABOVE[code] || (limit - BELOW[code] <= x && x < limit)
 }
 
 // Whether a number is in the range of an integer's code, for readers that make no record of a field. A code
