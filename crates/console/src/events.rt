@@ -1,5 +1,5 @@
 // Keys and answers in words.
-use crate::words::Refusal;
+use crate::words::Refused;
 use session::answer::Answer;
 use session::session::Session;
 use std::fmt;
@@ -39,7 +39,7 @@ impl fmt::Display for Answered {
                 write!(f, "fired at place {}", n - Answer::FIRED)
             }
             // A refusal's number fits a byte.
-            n => write!(f, "{}", Refusal(((n - Answer::REFUSED) % 256) as u8)),
+            n => write!(f, "{}", Refused(((n - Answer::REFUSED) % 256) as u8)),
         }
     }
 }

@@ -1,4 +1,5 @@
 // Words for a terminal: counts, bytes of an image, and what the refusal numbers mean.
+use cmf::refusal::Refusal;
 use std::fmt;
 
 // So many of something, which a noun names.
@@ -59,11 +60,17 @@ fn meaning(number: u8) -> &'static str {
     }
 }
 
-// A refusal by its number, with its meaning.
+// A refusal by its number, with its meaning; of some calls there is no more than the number.
 #[derive(Clone, Copy)]
-pub struct Refusal(pub u8);
+pub struct Refused(pub u8);
 
-impl fmt::Display for Refusal {
+impl From<Refusal> for Refused {
+    fn from(refusal: Refusal) -> Self {
+        Refused(refusal.number())
+    }
+}
+
+impl fmt::Display for Refused {
     fn fmt<W: fmt::Write>(&self, f: &mut fmt::Formatter<W>) -> fmt::Result {
         let number = self.0;
         write!(f, "refused {number}: {}", meaning(number))

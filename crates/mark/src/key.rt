@@ -1,14 +1,16 @@
 // A key as the bytes of a file: two-byte numbers, low byte first.
 ghost use Rattle.std.specs.Prelude.{◌≡◌};
+ghost use Rattle.cmf.specs.Refusals.{number};
 ghost use Rattle.acceptance.specs.Check.{refusal_of};
 ghost use Rattle.handset.specs.Refusals.{◌before◌};
 
 use crate::report::{say_questions, say_sums};
 use cmf::image::Image;
-use console::words::Refusal;
-use handset::refusal::refusal_of;
+use cmf::refusal::Refusal;
+use console::words::Refused;
+use handset::refusal::check_image;
 use laws::word_at;
-use marker::mark::{Marked, NO_KEY, mark};
+use marker::mark::{Marked, mark};
 use std::alloc::{AllocError, Global};
 use std::io;
 
@@ -28,15 +30,14 @@ fn numbers_of(alloc: Global, bytes: &[u8]) -> Result<Vec<u16>, AllocError> {
 }
 
 // The refusal of a key that ends inside a number: it does not fit; those of image and sheet come first.
-#[tactic(auto, using(handset::proofs::Ordering::first_given, handset::proofs::Ordering::next_given))]
-fn odd_refusal(image: &[u8], extent: usize) -> u8
-    ensures { result ≡ refusal_of image.now extent before 15 }
+#[tactic(auto, using(handset::proofs::Ordering::stops_at, handset::proofs::Ordering::goes_on))]
+fn odd_refusal(image: &[u8], extent: usize) -> Refusal
+    ensures { number result ≡ refusal_of image.now extent before 15 }
 {
-    let refusal = refusal_of(image, extent);
-    if refusal != 0 {
-        return refusal;
+    match check_image(image, extent) {
+        Ok(()) => Refusal::Key,
+        Err(refusal) => refusal,
     }
-    NO_KEY
 }
 
 // Marks a sheet by the bytes of a key, and prints what comes of it.
@@ -47,7 +48,7 @@ pub fn mark_by(
     bytes: &[u8],
 ) -> io::Result<()> {
     if bytes.len() % 2 != 0 {
-        return println!(rt; "{}", Refusal(odd_refusal(image, sheet.len())));
+        return println!(rt; "{}", Refused::from(odd_refusal(image, sheet.len())));
     }
     let key = numbers_of(rt.alloc(), bytes)?;
     match mark(image, sheet, &key) {
@@ -59,6 +60,6 @@ pub fn mark_by(
             say_questions(rt, image, sheet, &key)?;
             say_sums(rt, right, wrong, blank)
         }
-        Marked::Refused(number) => println!(rt; "{}", Refusal(number)),
+        Marked::Refused(number) => println!(rt; "{}", Refused(number)),
     }
 }

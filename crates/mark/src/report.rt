@@ -13,10 +13,7 @@ use std::io;
 // The image place of the one-byte field at a place of the sheet, among the image places of fields.
 fn field_among(image: &[u8], places: &[usize], place: SheetPlace) -> Option<ImagePlace> {
     for at in places {
-        let component = read_component(image, *at);
-        let field = component.field;
-        let here = is_byte_at(field, place);
-        if here {
+        if is_byte_at(read_component(image, *at).field, place) {
             return Some(ImagePlace(*at));
         }
     }
@@ -67,7 +64,9 @@ pub fn say_questions(
     sheet: &[u8],
     key: &[u16],
 ) -> io::Result<()> {
-    let fields = list_fields(image, sheet.len());
+    let Ok(fields) = list_fields(image, sheet.len()) else {
+        return Ok(());
+    };
     let places = fields.places.get(..fields.count).unwrap_or(&[]);
     for i in 0..key.len() / 3 {
         say_numbered(rt, image, sheet, places, i + 1, question_at(key, i))?;

@@ -38,6 +38,6 @@ pub fn replay(image: &[u8], recorded: &[u8], sheet: &mut [u8], picture: &mut [u8
 {
     let mut answers = [0u32; MAX_RECORD];
     let replayed = play(image, sheet, COLUMNS, LINES, recorded, &mut answers);
-    draw(image, sheet, replayed.session, picture);
+    let _ = draw(image, sheet, replayed.session, picture);
     replayed.refusal
 }

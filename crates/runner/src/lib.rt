@@ -8,6 +8,7 @@ mod playing;
 mod reading;
 mod recording;
 
+use cmf::refusal::refusal_number;
 use field::kind::ImagePlace;
 use handset::draw::draw;
 use handset::open::{Opened, open};
@@ -113,20 +114,15 @@ impl Case<'_, '_> {
 
     fn check(&self, rt: &impl Print) -> io::Result<()> {
         let c = check(self.image, self.sheet.len());
-        print!(rt; "{}", c.progress.refusal)
+        print!(rt; "{}", refusal_number(c.progress.refusal))
     }
 
     fn text(&self, rt: &impl Print) -> io::Result<()> {
         let place = ImagePlace(self.place as usize);
-        let mut refusal = 0;
-        let text = option_text(
-            self.image,
-            self.sheet,
-            place,
-            self.item as usize,
-            &mut refusal,
-        );
-        print!(rt; "{refusal} {}", Hex(text))
+        match option_text(self.image, self.sheet, place, self.item as usize) {
+            Ok(text) => print!(rt; "0 {}", Hex(text)),
+            Err(refusal) => print!(rt; "{} ", refusal.number()),
+        }
     }
 
     // Opens the image on a sheet of bytes 0xEE.
@@ -150,9 +146,11 @@ impl Case<'_, '_> {
         if length > PICTURE {
             return Ok(());
         }
-        let drawn = draw(self.image, self.sheet, session, &mut picture[..length]);
-        print!(rt; "{} ", drawn.refusal)?;
-        print_cursor(rt, drawn.cursor)?;
+        match draw(self.image, self.sheet, session, &mut picture[..length]) {
+            Ok(None) => print!(rt; "0 -")?,
+            Ok(Some(EditCursor { row, column })) => print!(rt; "0 {row},{column}")?,
+            Err(refusal) => print!(rt; "{} -", refusal.number())?,
+        }
         print!(rt; " {}", Hex(&picture[..length]))
     }
 
@@ -162,13 +160,6 @@ impl Case<'_, '_> {
         let length = read_word(rt)? as usize;
         let session = read_given(rt)?;
         self.print_picture(rt, session, length)
-    }
-}
-
-fn print_cursor(rt: &impl Print, cursor: Option<EditCursor>) -> io::Result<()> {
-    match cursor {
-        None => print!(rt; "-"),
-        Some(EditCursor { row, column }) => print!(rt; "{row},{column}"),
     }
 }
 

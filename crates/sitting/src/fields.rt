@@ -1,14 +1,12 @@
 // The fields of an image with their bytes, and of a refused image how far the walk came.
 use acceptance::index::{Entry, entry_at};
+use cmf::refusal::Refusal;
 use console::words::Plain;
 use field::kind::ImagePlace;
 use handset::option::option_text;
 use laws::byte_at;
 use std::{fmt, io};
 use walk::check::check;
-
-// The first refusal that comes from the walk and not from the prolog.
-const WALK: u8 = 6;
 
 // Bytes in hexadecimal digits, with a blank before each.
 #[derive(Clone, Copy)]
@@ -30,9 +28,7 @@ fn item_text<'a>(
     place: ImagePlace,
     item: usize,
 ) -> Option<&'a [u8]> {
-    let mut refusal = 0;
-    let text = option_text(image, sheet, place, item, &mut refusal);
-    if refusal == 0 { Some(text) } else { None }
+    option_text(image, sheet, place, item).ok()
 }
 
 fn print_field(out: &impl Print, image: &[u8], sheet: &[u8], e: Entry) -> io::Result<()> {
@@ -65,7 +61,8 @@ pub fn print_fields(out: &impl Print, image: &[u8], sheet: &[u8]) -> io::Result<
 // What the check knows of a fault that the walk found: how many line heads and fields are without fault, and
 // where the last thing before the fault ended.
 pub fn print_reach(out: &impl Print, image: &[u8], extent: usize, refusal: u8) -> io::Result<()> {
-    if refusal < WALK {
+    // The lower ones come from the prolog.
+    if refusal < Refusal::Cut.number() {
         return Ok(());
     }
     let c = check(image, extent);

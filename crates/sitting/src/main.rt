@@ -11,7 +11,7 @@ mod show;
 use cmf::image::Image;
 use console::display::{COLUMNS, LINES};
 use console::file::{IMAGE_ROOM, Source, is_given, open_named, read_named};
-use console::words::Refusal;
+use console::words::Refused;
 use handset::open::open;
 use letters::Sitting;
 use std::env::Env;
@@ -30,7 +30,7 @@ fn sit(
     let mut sheet = vec![in rt.alloc(); 0u8; Image::MAX_SHEET]?;
     let opened = open(image, &mut sheet, COLUMNS, LINES);
     if opened.refusal != 0 {
-        println!(rt; "{}", Refusal(opened.refusal))?;
+        println!(rt; "{}", Refused(opened.refusal))?;
         return fields::print_reach(rt, image, sheet.len(), opened.refusal);
     }
     let mut sitting = Sitting {

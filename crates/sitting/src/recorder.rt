@@ -1,6 +1,6 @@
 // The record of a sitting, in the file that the third argument names.
 use console::file::{is_given, write_named};
-use console::words::Refusal;
+use console::words::Refused;
 use record::recording::{MAX_EVENTS, record};
 use std::env::Env;
 use std::fs::Files;
@@ -24,7 +24,7 @@ pub fn record_events(
     let mut room = vec![in rt.alloc(); 0u8; ROOM]?;
     let recorded = record(events, &mut room);
     if recorded.refusal != 0 {
-        return println!(rt; "{}", Refusal(recorded.refusal));
+        return println!(rt; "{}", Refused(recorded.refusal));
     }
     room.truncate(recorded.length);
     write_named(rt, RECORD, &room, usage)

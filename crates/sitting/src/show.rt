@@ -2,7 +2,7 @@
 // the cell that the edit cursor is on.
 use crate::letters::Sitting;
 use console::display::{CELLS, WIDTH};
-use console::words::{Plain, Refusal};
+use console::words::{Plain, Refused};
 use handset::draw::draw;
 use picture::cursor::EditCursor;
 use std::io;
@@ -26,14 +26,14 @@ impl Sitting<'_> {
     // The picture as it is now.
     pub fn show(&self, out: &impl Print) -> io::Result<()> {
         let mut picture = [0u8; CELLS];
-        let drawn = draw(self.image, &self.sheet, self.session, &mut picture);
-        if drawn.refusal != 0 {
-            return println!(out; "{}", Refusal(drawn.refusal));
-        }
+        let cursor = match draw(self.image, &self.sheet, self.session, &mut picture) {
+            Ok(cursor) => cursor,
+            Err(refusal) => return println!(out; "{}", Refused::from(refusal)),
+        };
         println!(out; "{EDGE}")?;
         for (row, cells) in picture.chunks_exact(WIDTH).enumerate() {
             println!(out; "|{}|", Plain(cells))?;
-            print_cursor(out, drawn.cursor, row)?;
+            print_cursor(out, cursor, row)?;
         }
         println!(out; "{EDGE}")
     }

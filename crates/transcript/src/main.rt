@@ -7,7 +7,7 @@ mod tell;
 use cmf::image::Image;
 use console::display::{COLUMNS, LINES};
 use console::file::{IMAGE_ROOM, read_named};
-use console::words::Refusal;
+use console::words::Refused;
 use playback::play::play;
 use record::reading::check_record;
 use record::recording::MAX_EVENTS;
@@ -31,7 +31,7 @@ fn transcribe(out: &impl Print, image: &[u8], recorded: &[u8]) -> io::Result<()>
     let mut answers = [0u32; MAX_EVENTS];
     let replayed = play(image, &mut sheet, COLUMNS, LINES, recorded, &mut answers);
     if replayed.refusal != 0 {
-        return println!(out; "{}", Refusal(replayed.refusal));
+        return println!(out; "{}", Refused(replayed.refusal));
     }
     tell::tell(out, events_of(recorded), &answers)
 }
