@@ -6,7 +6,7 @@ use mathlib.Core.List.{List}
 use native.Mathlib.Omega.{arith}
 use borrow.Author.Tests.{eqb-true, eqb-false}
 use Rattle.laws.specs.Choice.{when◌then◌else◌, ◌=?◌}
-use Rattle.laws.proofs.Cases.{by_test, if_true, if_false, if_eq, if_ne, if_ind}
+use Rattle.laws.proofs.Cases.{tests, by_test, if_true, if_false, if_eq, if_ne, if_ind}
 use Rattle.acceptance.specs.Check.{refusal_of}
 use Rattle.session.specs.Fits.{session_fits}
 use Rattle.session.specs.declared.session.Session.{Session}
@@ -30,6 +30,9 @@ holding k t h = if_true _ _ h
 pub failing : (k : ℕ) (t : Bool) → t ≡ false → k unless t ≡ k
 unfolding ◌unless◌
 failing k t h = if_false _ _ h
+
+-- what a test by itself answers, by the facts of its branch
+pub ruleset tested = (holding, failing, tests)
 
 -- one test more after those that give r, which a call knows as k: what the call answers where it passes
 pub not_refused : (k r j : ℕ) (t : Bool) → k ≡ r → k ≡ 0 → t ≡ true → 0 ≡ r before (j unless t)

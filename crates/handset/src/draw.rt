@@ -13,6 +13,7 @@ use picture::picture::put_picture;
 use session::session::Session;
 
 // A picture of so many bytes for a display of so many columns and lines.
+#[tactic(auto, using(crate::proofs::Ordering::tested))]
 fn check_picture(columns: u8, lines: u8, length: usize) -> Result<(), Refusal>
     ensures { refusal_in result ≡ (1 unless (length =? columns * lines)) }
 {

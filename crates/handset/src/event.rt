@@ -12,6 +12,7 @@ use cmf::refusal::Refusal;
 use session::answer::{Answer, Stepped};
 use session::session::Session;
 
+#[tactic(auto, using(crate::proofs::Ordering::tested))]
 fn check_event(event: u8) -> Result<(), Refusal>
     ensures { refusal_in result ≡ (13 unless (event ≤? second)) }
 {

@@ -23,6 +23,7 @@ pub fn check_image(image: &[u8], extent: usize) -> Result<(), Refusal>
     }
 }
 
+#[tactic(auto, using(crate::proofs::Ordering::tested))]
 fn check_session(image: &[u8], session: Session) -> Result<(), Refusal>
     ensures { refusal_in result ≡ (12 unless session_fits image.now session) }
 {
