@@ -7,14 +7,15 @@ use lib.ListN.{length}
 use borrow.Author.Tests.{eq-eqb, ne_eqb, eqb-true, eqb-false}
 use Rattle.laws.specs.Choice.{when◌then◌else◌, ◌=?◌}
 use Rattle.laws.proofs.Cases.{by_test, if_eq, if_ne}
+use Rattle.cmf.specs.Refusals.{number}
+use Rattle.cmf.specs.declared.refusal.Refusal.{Refusal}
+use Rattle.cmf.proofs.Numbers.{number_positive}
 use Rattle.session_bytes.specs.Layout.{session_bytes, session_written, session_from}
 use Rattle.session_bytes.proofs.Layouts.{written}
 use Rattle.handset.specs.Refusals.{◌before◌, ◌unless◌}
 use Rattle.handset.specs.Open.{open_refusal}
-use Rattle.handset.proofs.Ordering.{first_given, next_given, holding, failing, none_before}
+use Rattle.handset.proofs.Ordering.{next_given, holding, failing, none_before, stops_at}
 use Rattle.record.specs.Forms.{recording_refusal, recorded, events_of}
-use Rattle.record.specs.declared.recording.Recorded.{Recorded}
-use Rattle.record.specs.declared.reading.Checked.{Checked}
 use Rattle.record.specs.Promises.{Bytes}
 use Rattle.record.proofs.Promises as records
 use Rattle.playback.specs.Replay.{list_refusal, play_refusal, play_answer, play_sheet, play_list, listed}
@@ -26,40 +27,29 @@ use Rattle.binding.proofs.Wide.{open_wide, begun_wide}
 
 -- ---- recording
 
-module _ (es : List ℕ) (room : ℕ) (r : Recorded) (e : r ≡ recorded es room) where
-  refusal_is : r.refusal ≡ recording_refusal es room
-  unfolding recorded
-  refusal_is = ap (λ (x : Recorded). x.refusal) e
-
-  pub record_refused : (n : ℕ) → (r.refusal ≡ 0 → ⊥) → n ≡ refused_by r.refusal → n ≡ record_number es room
-  unfolding record_number
-  record_refused n h f = f ∙ rw refusal_is (sym (if_ne (recording_refusal es room) 0 _ _ (λ z. h (refusal_is ∙ z))))
-
-  pub record_told : r.refusal ≡ 0 → r.length ≡ record_number es room
+module _ (es : List ℕ) (room : ℕ) where
+  pub record_refused : (f : Refusal) → number f ≡ (recorded es room).refusal → (n : ℕ) → n ≡ refused_by (number f) → n ≡ record_number es room
   unfolding record_number recorded
-  record_told h =
-      let z = sym refusal_is ∙ h in
-      ap (λ (x : Recorded). x.length) e ∙ if_eq (recording_refusal es room) 0 _ _ z ∙ sym (if_eq (recording_refusal es room) 0 _ _ z)
+  record_refused f e n h = h ∙ rw e (sym (if_ne (recording_refusal es room) 0 _ _ (λ z. omega (arith, number_positive f, e, z))))
 
-  pub record_small : r.length ≤ 65539
-  record_small = rw e ((records.promises).short es room)
+  pub record_told : 0 ≡ (recorded es room).refusal → (n : ℕ) → n ≡ (recorded es room).length → n ≡ record_number es room
+  unfolding record_number recorded
+  record_told e n h = h ∙ if_eq (recording_refusal es room) 0 _ _ (sym e) ∙ sym (if_eq (recording_refusal es room) 0 _ _ (sym e))
+
+  pub record_small : (n : ℕ) → n ≡ (recorded es room).length → n ≤ 65539
+  record_small n h = rw h ((records.promises).short es room)
 
 -- ---- playing: what is refused where the session's buffer has another length
 
-module _ (im : List ℕ) (extent columns lines : ℕ) (rec : List ℕ) (room : ℕ) (c : Checked) (e : c ≡ listed rec room) where
-  list_refusal_lem : c.refusal ≡ list_refusal rec room
-  unfolding listed
-  list_refusal_lem = ap (λ (x : Checked). x.refusal) e
+module _ (im : List ℕ) (extent columns lines : ℕ) (rec : List ℕ) (room : ℕ) where
+  pub unsized_record : (f : Refusal) → number f ≡ (listed rec room).refusal → number f ≡ play_refusal im extent columns lines rec room before 12
+  unfolding play_refusal listed
+  unsized_record f e = stops_at (play_refusal im extent columns lines rec room) 12 f (stops_at (list_refusal rec room) (open_refusal im extent columns lines) f e)
 
-  pub unsized_record : (c.refusal ≡ 0 → ⊥) → c.refusal ≡ play_refusal im extent columns lines rec room before 12
-  unfolding play_refusal
-  unsized_record h =
-      sym (rw (← list_refusal_lem, first_given c.refusal (open_refusal im extent columns lines) h) (first_given c.refusal 12 h))
-
-  pub unsized_open : (k : ℕ) → c.refusal ≡ 0 → k ≡ open_refusal im extent columns lines before 12
+  pub unsized_open : 0 ≡ (listed rec room).refusal → (k : ℕ) → k ≡ open_refusal im extent columns lines before 12
       → k ≡ play_refusal im extent columns lines rec room before 12
-  unfolding play_refusal
-  unsized_open k h f = f ∙ rw (next_given (list_refusal rec room) (open_refusal im extent columns lines) (sym list_refusal_lem ∙ h))
+  unfolding play_refusal listed
+  unsized_open e k f = f ∙ rw (next_given (list_refusal rec room) (open_refusal im extent columns lines) (sym e))
 
 -- ---- playing
 

@@ -45,7 +45,7 @@ pub extern "C" fn handset_mark(image: &[u8], sheet: &[u8], key: &[u16], sums: &m
             right,
             wrong,
             blank,
-        } => give(&mut *sums, right, wrong, blank),
+        } => give(sums, right, wrong, blank),
         Marked::Refused(refusal) => refused_by(refusal),
     }
 }
@@ -55,11 +55,10 @@ pub extern "C" fn handset_record(events: &[u8], room: &mut [u8]) -> u32
     ensures value { result ≡ record_number events.now (length room.old) }
     ensures room_after { room.new ≡ recorded_in events.now room.old }
 {
-    let recorded = record(events, &mut *room);
-    if recorded.refusal != 0 {
-        return refused_by(recorded.refusal);
+    match record(events, room) {
+        Ok(length) => length as u32,
+        Err(refusal) => refused_by(refusal.number()),
     }
-    recorded.length as u32
 }
 
 // The refusal of a replay whose session would not fit its buffer: the record's, 25, Open's, then 12.
@@ -74,11 +73,10 @@ fn unsized_replay(
     ensures { result ≡ play_refusal image.now extent columns lines recorded.now room
         before 12 }
 {
-    let checked = check_listed(recorded, room);
-    if checked.refusal != 0 {
-        return checked.refusal;
+    match check_listed(recorded, room) {
+        Ok(_) => unsized_refusal(image, extent, columns, lines),
+        Err(refusal) => refusal.number(),
     }
-    unsized_refusal(image, extent, columns, lines)
 }
 
 #[unsafe(no_mangle)]
@@ -109,9 +107,9 @@ pub extern "C" fn handset_play(
         let refusal = unsized_replay(image, sheet.len(), across, down, recorded, answers.len());
         return REFUSED + refusal as u32;
     }
-    let replayed = play(image, &mut *sheet, across, down, recorded, &mut *answers);
+    let replayed = play(image, sheet, across, down, recorded, answers);
     let last = replayed.session;
-    write_session(&mut *session, last);
+    write_session(session, last);
     if replayed.refusal != 0 {
         return refused_by(replayed.refusal);
     }

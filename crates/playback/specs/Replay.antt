@@ -9,8 +9,7 @@ use Rattle.handset.specs.Refusals.{◌before◌, ◌unless◌}
 use Rattle.handset.specs.Open.{open_refusal}
 use Rattle.journal.specs.Journal.{Answered}
 use Rattle.journal.specs.Sitting.{Sitting, begun_with, played, answered_in}
-use Rattle.record.specs.Forms.{record_refusal, events_of, start_of}
-use Rattle.record.specs.declared.reading.Checked.{Checked}
+use Rattle.record.specs.Forms.{Checked, record_refusal, events_of, start_of}
 use Rattle.playback.specs.declared.play.Replayed.{Replayed}
 
 -- ---- refusals

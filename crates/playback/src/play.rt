@@ -1,12 +1,13 @@
 // The call: plays a record on an image and a sheet. All that is at fault with the record, or with the room
 // for its answers, is found before Open.
-ghost use Rattle.std.specs.Prelude.{◌≡◌, length};
+ghost use Rattle.std.specs.Prelude.{◌≡◌, length, IfOk};
+ghost use Rattle.cmf.specs.Refusals.{refusal_in};
 ghost use Rattle.playback.specs.Replay.{listed, refused_replay, play_answer, play_sheet, play_list};
 
 use crate::events::play_events;
 use cmf::refusal::Refusal;
 use handset::open::open;
-use record::reading::{Checked, check_record};
+use record::reading::{Events, check_record};
 use session::session::Session;
 
 // The refusal number, 0 for none; how many events were played; and the session after them, closed where the
@@ -29,21 +30,16 @@ fn refused(refusal: u8) -> Replayed
 }
 
 // Looks a record through, and then tests that a list of so many entries has room for its answers.
-pub fn check_listed(recorded: &[u8], room: usize) -> Checked
-    ensures { result ≡ listed recorded.now room }
+pub fn check_listed(recorded: &[u8], room: usize) -> Result<Events, Refusal>
+    ensures refusal_value { refusal_in result ≡ (listed recorded.now room).refusal }
+    ensures events_value { IfOk result (λ e. (e.count ≡ (listed recorded.now room).events)
+        × (e.start ≡ (listed recorded.now room).start)) }
 {
-    let checked = check_record(recorded);
-    if checked.refusal != 0 {
-        return checked;
+    let events = check_record(recorded)?;
+    if room < events.count {
+        return Err(Refusal::Room);
     }
-    if room < checked.events {
-        return Checked {
-            refusal: Refusal::Room.number(),
-            events: 0,
-            start: 0,
-        };
-    }
-    checked
+    Ok(events)
 }
 
 // Plays a record. The answers go to the start of a lent list, by their numbers, and its rest stays.
@@ -62,19 +58,19 @@ pub fn play(
     ensures answers_after { answers.new ≡ play_list image.now sheet.old columns lines
         recorded.now answers.old }
 {
-    let checked = check_listed(recorded, answers.len());
-    if checked.refusal != 0 {
-        return refused(checked.refusal);
-    }
+    let listed = match check_listed(recorded, answers.len()) {
+        Ok(events) => events,
+        Err(refusal) => return refused(refusal.number()),
+    };
     let opened = open(image, sheet, columns, lines);
     if opened.refusal != 0 {
         return refused(opened.refusal);
     }
-    let events = &recorded[checked.start..];
+    let events = &recorded[listed.start..];
     let last = play_events(image, sheet, opened.session, events, answers);
     Replayed {
         refusal: 0,
-        events: checked.events,
+        events: listed.count,
         session: last,
     }
 }

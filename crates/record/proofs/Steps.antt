@@ -8,7 +8,7 @@ use lib.ListN.{length, get_or}
 use borrow.Author.Tests.{eq-eqb, ne_eqb, eqb-true, eqb-false, le-leb, lt-leb}
 use Rattle.std.proofs.Common.{Option, Some, None, Result, Ok, Err, MatchBool, HoldsAt}
 use Rattle.std.specs.List.{AllWithin}
-use Rattle.laws.specs.Choice.{when◌then◌else◌, ◌and◌, ◌=?◌, ◌≤?◌}
+use Rattle.laws.specs.Choice.{◌and◌, ◌=?◌, ◌≤?◌}
 use Rattle.laws.proofs.Cases.{by_test, if_eq, if_ne, and_i, and_l, and_false}
 use Rattle.session.specs.Events.{second}
 use Rattle.handset.specs.Refusals.{◌unless◌}
@@ -18,8 +18,7 @@ use Rattle.record.specs.Forms.{are_events, on_head, is_sequence, events_refusal,
 use Rattle.cmf.specs.Refusals.{number}
 use Rattle.cmf.specs.declared.refusal.Refusal.{Refusal}
 use Rattle.cmf.specs.declared.refusal.Refusal.TheVariants as fault
-use Rattle.record.specs.Heads.{head_of, refused_record, events_checked}
-use Rattle.record.specs.declared.reading.Checked.{Checked}
+use Rattle.record.specs.Heads.{head_of}
 
 -- ---- one number
 
@@ -80,14 +79,22 @@ head_both g a o f b p h s =
     rw (head_whole a o f s form at e one n next k, head_whole b p h s form at e one n next k, head_whole (g a b) (g o p) (λ n at. g (f n at) (h n at)) s form at e one n next k))
 
 -- what goes on from a head that the code has read
-goes_on : {A : Type 0} → (ℕ → A) → (ℕ → ℕ → A) → Result (ℕ × ℕ) Refusal → A
-goes_on r f (Err k) = r (number k)
-goes_on r f (Ok (n, at)) = f n at
+module _ {A : Type 0} (r : ℕ → A) (f : ℕ → ℕ → A) (s : List ℕ) where
+  goes_on : Result (ℕ × ℕ) Refusal → A
+  goes_on (Err k) = r (number k)
+  goes_on (Ok (n, at)) = f n at
 
-goes_on_lem : {A : Type 0} (r : ℕ → A) (f : ℕ → ℕ → A) (s : List ℕ) → goes_on r f (head_of s) ≡ on_head (r 16) (r 17) f s
-unfolding head_of goes_on
-goes_on_lem r f s =
-    head_both (λ (x : Result (ℕ × ℕ) Refusal) (y : ℕ). goes_on r f x) (Err fault.Record) (Err fault.OtherForm) (λ n at. Ok (n, at)) 0 0 (λ n at. 0) s
+  goes_on_lem : goes_on (head_of s) ≡ on_head (r 16) (r 17) f s
+  unfolding head_of goes_on
+  goes_on_lem = head_both (λ (x : Result (ℕ × ℕ) Refusal) (y : ℕ). goes_on x) (Err fault.Record) (Err fault.OtherForm) (λ n at. Ok (n, at)) 0 0 (λ n at. 0) s
+
+  pub head_refused : (k : Refusal) → head_of s ≡ Err k → on_head (r 16) (r 17) f s ≡ r (number k)
+  unfolding goes_on
+  head_refused k e = sym goes_on_lem ∙ ap goes_on e
+
+  pub head_read : (n at : ℕ) → head_of s ≡ Ok (n, at) → on_head (r 16) (r 17) f s ≡ f n at
+  unfolding goes_on
+  head_read n at e = sym goes_on_lem ∙ ap goes_on e
 
 -- ---- the events
 
@@ -166,10 +173,6 @@ and_on false b c = refl
 
 -- ---- the whole
 
--- the refusal number, the number of events as the head states it, and the place of the first
-abbrev answer : ℕ → ℕ × ℕ → Checked
-answer k p = record { refusal = k; events = when k =? 0 then p.0 else 0; start = when k =? 0 then p.1 else 0 }
-
 module _ (s : List ℕ) where
   -- the number of events that the head states
   stated : ℕ
@@ -191,41 +194,29 @@ module _ (s : List ℕ) where
       rw (head_whole [] [] (λ n at. numbers_at n s at) s form at e one n next k, head_whole 0 0 (λ n at. n) s form at e one n next k)
       (row_counted n next (sym (head_whole 16 17 (λ n at. events_refusal n s at) s form at e one n next k) ∙ z)))
 
-  checked_stated : checked s ≡ answer (record_refusal s) (stated, start_of s)
-  unfolding checked
-  checked_stated =
-      by_test (record_refusal s =? 0)
-      (λ t. let z = eqb-true (record_refusal s) 0 t in rw (events_stated z))
-      (λ t. let h = eqb-false (record_refusal s) 0 t in
-      rw (if_ne (record_refusal s) 0 (length (events_of s)) 0 h, if_ne (record_refusal s) 0 stated 0 h))
+  -- the head is refused
+  pub refused_head : (k : Refusal) → head_of s ≡ Err k → number k ≡ (checked s).refusal
+  unfolding checked record_refusal
+  refused_head k e = sym (head_refused (λ j. j) (λ n at. events_refusal n s at) s k e)
 
-  checked_on : checked s ≡ on_head (answer 16 (0, 0)) (answer 17 (0, 0)) (λ n at. events_checked n s at) s
-  unfolding record_refusal start_of events_checked stated
-  checked_on =
-      checked_stated
-      ∙ ap (λ (p : ℕ × ℕ). answer (record_refusal s) p) (head_both (λ (x y : ℕ). (x, y)) 0 0 (λ n at. n) 0 0 (λ n at. at) s)
-      ∙ head_both answer 16 17 (λ n at. events_refusal n s at) (0, 0) (0, 0) (λ n at. (n, at)) s
+  -- or the events are looked through
+  module _ (n at : ℕ) (e : head_of s ≡ Ok (n, at)) where
+    pub refused_events : (k : ℕ) → k ≡ events_refusal n s at → k ≡ (checked s).refusal
+    unfolding checked record_refusal
+    refused_events k f = f ∙ sym (head_read (λ j. j) (λ n at. events_refusal n s at) s n at e)
 
-  whole : checked s ≡ goes_on refused_record (λ n at. events_checked n s at) (head_of s)
-  unfolding when◌then◌else◌
-  whole = checked_on ∙ sym (goes_on_lem refused_record (λ n at. events_checked n s at) s)
+    module _ (z : 0 ≡ events_refusal n s at) where
+      none : record_refusal s ≡ 0
+      unfolding checked
+      none = sym (refused_events 0 z)
 
-  pub checked_refused : (k : Refusal) (c : Checked) → head_of s ≡ Err k → c ≡ refused_record (number k) → c ≡ checked s
-  unfolding goes_on
-  checked_refused k c e h = h ∙ sym (whole ∙ ap (goes_on refused_record (λ n at. events_checked n s at)) e)
+      pub count_checked : n ≡ (checked s).events
+      unfolding checked stated
+      count_checked = sym (if_eq (record_refusal s) 0 _ _ none ∙ events_stated none ∙ head_read (λ j. 0) (λ n at. n) s n at e)
 
-  pub checked_events : (n at : ℕ) (c : Checked) → head_of s ≡ Ok (n, at) → c ≡ events_checked n s at → c ≡ checked s
-  unfolding goes_on
-  checked_events n at c e h = h ∙ sym (whole ∙ ap (goes_on refused_record (λ n at. events_checked n s at)) e)
-
-  module _ (n at k : ℕ) (e : k ≡ events_refusal n s at) where
-    pub events_refused : (c : Checked) → (k ≡ 0 → ⊥) → c ≡ refused_record k → c ≡ events_checked n s at
-    unfolding events_checked
-    events_refused c h f = f ∙ rw (← e, if_ne k 0 n 0 h, if_ne k 0 at 0 h)
-
-    pub events_whole : k ≡ 0 → record { refusal = 0; events = n; start = at } ≡ events_checked n s at
-    unfolding events_checked
-    events_whole h = rw (← e, h, if_eq 0 0 n 0 refl, if_eq 0 0 at 0 refl)
+      pub start_checked : at ≡ (checked s).start
+      unfolding checked start_of
+      start_checked = sym (if_eq (record_refusal s) 0 _ _ none ∙ head_read (λ j. 0) (λ n at. at) s n at e)
 
 -- ---- a list of events
 

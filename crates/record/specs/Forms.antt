@@ -5,8 +5,6 @@ use Rattle.laws.specs.Parts.{put_at}
 use Rattle.session.specs.Events.{second}
 use Rattle.handset.specs.Refusals.{◌before◌, ◌unless◌}
 use Rattle.record.specs.Numbers.{most_number, sequence_of, number_at, on_read, numbers_at, end_after}
-use Rattle.record.specs.declared.recording.Recorded.{Recorded}
-use Rattle.record.specs.declared.reading.Checked.{Checked}
 
 -- 01, The four calls: events are 0 to 16
 unfoldable pub are_events : List ℕ → Bool
@@ -25,6 +23,11 @@ unfoldable pub recording_refusal : List ℕ → ℕ → ℕ
 recording_refusal es room =
     (16 unless (length es ≤? most_number)) before (13 unless are_events es)
     before (25 unless (length (record_of es) ≤? room))
+
+-- what a recording answers
+pub record Recorded : Type 0 where
+  pub refusal : ℕ
+  pub length : ℕ
 
 -- the refusal number, 0 for none, and the record's length, 0 where it is refused
 unfoldable pub recorded : List ℕ → ℕ → Recorded
@@ -70,6 +73,12 @@ events_of s = on_head [] [] (λ n at. numbers_at n s at) s
 -- where the events begin; as each is its own byte, they are the bytes from there on (`Promises`)
 unfoldable pub start_of : List ℕ → ℕ
 start_of s = on_head 0 0 (λ n at. at) s
+
+-- what the check of a record answers
+pub record Checked : Type 0 where
+  pub refusal : ℕ
+  pub events : ℕ
+  pub start : ℕ
 
 -- the refusal number, 0 for none; the number of events and where they begin, 0 where the record is refused
 unfoldable pub checked : List ℕ → Checked

@@ -1,31 +1,19 @@
 // Reading: a record is looked through before any of its events is played.
-ghost use Rattle.std.specs.Prelude.{◌≡◌};
-ghost use Rattle.cmf.specs.Refusals.{number, refusal_in};
+ghost use Rattle.std.specs.Prelude.{◌≡◌, IfOk};
+ghost use Rattle.cmf.specs.Refusals.{refusal_in};
 ghost use Rattle.record.specs.Forms.{events_refusal, checked};
-ghost use Rattle.record.specs.Heads.{head_of, refused_record, events_checked};
+ghost use Rattle.record.specs.Heads.{head_of};
 
 use crate::number::read_number;
 use crate::recording::FORM_1;
 use cmf::refusal::Refusal;
 use session::session::Session;
 
-// The refusal number, 0 for none; the number of events, and the place of the first, 0 where the record is
-// refused. The events are the bytes from there on.
+// The events of a record: how many they are, and the place of the first. They are the bytes from there on.
 #[derive(Clone, Copy)]
-pub struct Checked {
-    pub refusal: u8,
-    pub events: usize,
+pub struct Events {
+    pub count: usize,
     pub start: usize,
-}
-
-fn refused(refusal: Refusal) -> Checked
-    ensures { result ≡ refused_record (number refusal) }
-{
-    Checked {
-        refusal: refusal.number(),
-        events: 0,
-        start: 0,
-    }
 }
 
 // The number of events and the place after it, or why the record is refused before any event.
@@ -60,26 +48,13 @@ fn scan(bytes: &[u8], at: usize, count: usize) -> Result<(), Refusal>
     if known { Ok(()) } else { Err(Refusal::Event) }
 }
 
-// Looks the events of a record through, so many from a place on.
-fn check_events(bytes: &[u8], start: usize, count: usize) -> Checked
-    ensures { result ≡ events_checked count bytes.now start }
-{
-    if let Err(refusal) = scan(bytes, start, count) {
-        return refused(refusal);
-    }
-    Checked {
-        refusal: 0,
-        events: count,
-        start,
-    }
-}
-
 // Looks a record through.
-pub fn check_record(bytes: &[u8]) -> Checked
-    ensures { result ≡ checked bytes.now }
+pub fn check_record(bytes: &[u8]) -> Result<Events, Refusal>
+    ensures refusal_value { refusal_in result ≡ (checked bytes.now).refusal }
+    ensures events_value { IfOk result (λ e. (e.count ≡ (checked bytes.now).events)
+        × (e.start ≡ (checked bytes.now).start)) }
 {
-    match read_head(bytes) {
-        Ok((count, start)) => check_events(bytes, start, count),
-        Err(refusal) => refused(refusal),
-    }
+    let (count, start) = read_head(bytes)?;
+    scan(bytes, start, count)?;
+    Ok(Events { count, start })
 }

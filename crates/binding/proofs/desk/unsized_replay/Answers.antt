@@ -2,8 +2,8 @@
 use Rattle.binding.proofs.Replays.{unsized_record, unsized_open}
 use Rattle.binding.proofs.desk.unsized_replay.Goals as goal
 
-pub returns-then-checked-ne0 : goal.returns-then-checked-ne0
-returns-then-checked-ne0 c = unsized_record _ _ _ _ _ _ _ c.check_listed-checked.ensures c.if-checked-ne0.true
+pub returns-in-Err : goal.returns-in-Err
+returns-in-Err c = rw c.number.ensures (unsized_record _ _ _ _ _ _ _ c.in-Err.ensures.refusal_value)
 
-pub returns : goal.returns
-returns c = unsized_open _ _ _ _ _ _ _ c.check_listed-checked.ensures _ c.if-checked-ne0.false c.unsized_refusal.ensures
+pub returns-in-Ok : goal.returns-in-Ok
+returns-in-Ok c = unsized_open _ _ _ _ _ _ c.in-Ok.ensures.refusal_value _ c.unsized_refusal.ensures

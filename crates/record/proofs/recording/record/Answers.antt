@@ -1,33 +1,34 @@
--- The three writings, one after the other, are the record.
-use mathlib.Core.Path.{sym, ◌∙◌}
+-- Refused, or the three writings one after the other, which are the record.
+use mathlib.Core.Path.{◌≡◌}
 use native.Mathlib.Omega.{arith}
 use lib.ListN.{length}
-use Rattle.record.proofs.Records.{too_many, bad_event, too_short, is_recorded}
-use Rattle.record.proofs.Groups.{count_most}
+use Rattle.std.proofs.lemmas.Result.{err_from_is_err_and}
+use Rattle.cmf.specs.Refusals.{number}
+use Rattle.cmf.proofs.Numbers.{number_positive}
+use Rattle.record.proofs.Records.{is_few, recorded_length, recorded_refusal, refused_room, recorded_room}
 use Rattle.record.proofs.recording.record.Goals as goal
 
-pub returns-then-n-gt-MAX_EVENTS : goal.returns-then-n-gt-MAX_EVENTS
-returns-then-n-gt-MAX_EVENTS c =
-    let told = too_many _ _ _ c.if-n-gt-MAX_EVENTS.true c.refused.ensures in
-    record { value = told.0; room_after = told.1 }
+pub returns-in_err-length-clause-refusal_value : goal.returns-in_err-length-clause-refusal_value
+returns-in_err-length-clause-refusal_value c =
+    let p = err_from_is_err_and c.from_residual.result c.from_residual.ensures.1 in
+    rw (p.1, p.2) (recorded_refusal _ _ _ c.in_err-length.ensures.refusal_value)
 
-pub returns-then-not-are_events : goal.returns-then-not-are_events
-returns-then-not-are_events c =
-    let told = bad_event _ _ c.if-n-gt-MAX_EVENTS.false _ (sym c.are_events.ensures ∙ c.if-not-are_events.true) c.refused-then-not-are_events.ensures in
-    record { value = told.0; room_after = told.1 }
+pub returns-in_err-length-clause-room_after : goal.returns-in_err-length-clause-room_after
+returns-in_err-length-clause-room_after c =
+    let z : number c.in_err-length.field-0.0 ≡ 0 → ⊥ = λ e. omega (arith, number_positive c.in_err-length.field-0.0, e) in
+    refused_room _ _ _ z c.in_err-length.ensures.refusal_value
 
-pub overflow_add-length : goal.overflow_add-length
-overflow_add-length c = omega (arith, c.group_count.ensures, count_most (length c.args.events.now))
+pub overflow_cast-events : goal.overflow_cast-events
+overflow_cast-events c = omega (arith, is_few c.args.events.now (length c.args.room.now) c.in_ok-length.ensures.refusal_value)
 
-pub overflow_add-length-2 : goal.overflow_add-length-2
-overflow_add-length-2 c = omega (arith, c.group_count.ensures, count_most (length c.args.events.now))
+pub returns-clause-refusal_value : goal.returns-clause-refusal_value
+returns-clause-refusal_value c = recorded_refusal _ _ _ c.in_ok-length.ensures.refusal_value
 
-pub returns-then-room-length : goal.returns-then-room-length
-returns-then-room-length c =
-    let told = too_short _ _ c.if-n-gt-MAX_EVENTS.false (sym c.are_events.ensures ∙ c.if-not-are_events.false) _ (rw c.group_count.ensures at c.if-room-length.true) c.refused-then-room-length.ensures in
-    record { value = told.0; room_after = told.1 }
+pub returns-clause-length_value : goal.returns-clause-length_value
+returns-clause-length_value c = recorded_length _ _ c.in_ok-length.ensures.refusal_value _ c.in_ok-length.ensures.length_value
 
-pub returns : goal.returns
-returns c =
-    let told = is_recorded _ _ c.if-n-gt-MAX_EVENTS.false (sym c.are_events.ensures ∙ c.if-not-are_events.false) (rw c.group_count.ensures at c.if-room-length.false) _ _ _ _ _ _ c.write_number-at.ensures.0 c.write_number-at.ensures.1 c.write_number-start.ensures.0 c.write_number-start.ensures.1 c.put_bytes.ensures c.group_count.ensures in
-    record { value = told.0; room_after = told.1 }
+pub returns-clause-room_after : goal.returns-clause-room_after
+returns-clause-room_after c =
+    let at = c.write_number-at.ensures in
+    let start = c.write_number-start.ensures in
+    recorded_room _ _ c.in_ok-length.ensures.refusal_value _ _ _ _ _ at.0 at.1 start.0 start.1 c.put_bytes.ensures
