@@ -9,14 +9,14 @@ use Rattle.marker.proofs.mark.mark_all.Goals as goal
 
 pub loop-rest-init : goal.loop-rest-init
 unfolding sum_in
-loop-rest-init c = record { marks = rw c.none-tally.ensures refl; room = omega (arith, c.requires, ap sum_in c.none-tally.ensures); over = refl }
+loop-rest-init c = record { marks = rw c.none-sums.ensures refl; room = omega (arith, c.requires, ap sum_in c.none-sums.ensures); over = refl }
 
 pub returns-then-not-fits : goal.returns-then-not-fits
 returns-then-not-fits c =
     let a = c.args in
     let l = c.loop-rest in
-    rw c.number.ensures (stopped a.table.now a.sheet.now a.key.now
-    (sym (stops_here _ _ _ l.tally _ _ c.in-len3-up.len_at_least refl c.take_out-number.ensures.value (sym c.fits.ensures ∙ c.if-not-fits.true)) ∙ l.invariant.marks))
+    stopped a.table.now a.sheet.now a.key.now
+    (sym (stops_here _ _ _ l.sums _ _ c.in-len3-up.len_at_least refl c.take_out-number.ensures.value (sym c.fits.ensures ∙ c.if-not-fits.true)) ∙ l.invariant.marks)
 
 pub judge-requires : goal.judge-requires
 judge-requires c = (fits_open _ _ (sym c.fits.ensures ∙ c.if-not-fits.false)).0
@@ -29,20 +29,19 @@ loop-rest-preserved c =
     let n = c.take_out-number.ensures in
     let fine = sym c.fits.ensures ∙ c.if-not-fits.false in
     record {
-      marks = sym (goes_on _ _ s l.tally _ _ h refl n.value fine n.table_after c.judge.ensures c.with-tally.ensures _ (after_three s)) ∙ l.invariant.marks;
-      room = room_left _ c.args.sheet.now s l.tally _ _ h refl n.value fine n.table_after c.judge.ensures c.with-tally.ensures 65280 l.invariant.room;
+      marks = sym (goes_on _ _ s l.sums _ _ h refl n.value fine n.table_after c.judge.ensures c.with-sums.ensures _ (after_three s)) ∙ l.invariant.marks;
+      room = room_left _ c.args.sheet.now s l.sums _ _ h refl n.value fine n.table_after c.judge.ensures c.with-sums.ensures 65280 l.invariant.room;
       over = still_over s _ c.args.key.now h (after_three s) l.invariant.over;
     }
 
 pub returns-then-not-is_empty : goal.returns-then-not-is_empty
 returns-then-not-is_empty c =
     let l = c.loop-rest in
-    rw c.number-then-not-is_empty.ensures (some_over c.args.table.now c.args.sheet.now c.args.key.now l.table l.rest.now l.tally c.in_default.len_below l.invariant.over
-    (eqb-false _ 0 (sym c.is_empty.ensures ∙ c.if-not-is_empty.true)))
+    some_over c.args.table.now c.args.sheet.now c.args.key.now l.table l.rest.now l.sums c.in_default.len_below l.invariant.over
+    (eqb-false _ 0 (sym c.is_empty.ensures ∙ c.if-not-is_empty.true))
 
 pub returns : goal.returns
 returns c =
     let l = c.loop-rest in
-    c.sums.ensures
-    ∙ none_over c.args.table.now c.args.sheet.now c.args.key.now l.table l.rest.now l.tally c.in_default.len_below l.invariant.over l.invariant.marks
+    none_over c.args.table.now c.args.sheet.now c.args.key.now l.table l.rest.now l.sums c.in_default.len_below l.invariant.over l.invariant.marks
     (eqb-true _ 0 (sym c.is_empty.ensures ∙ c.if-not-is_empty.false))
