@@ -12,6 +12,11 @@ use Rattle.laws.specs.Bytes.{byte_at}
 use Rattle.laws.proofs.Cases.{if_ind, by_test, if_true, if_false, if_eq, if_ne, and_l, and_r, and_true, and_false}
 use Rattle.field.specs.declared.record.Field.{Field}
 use Rattle.cmf.specs.Places.{is_in}
+use Rattle.cmf.specs.Refusals as refusals
+use Rattle.cmf.specs.declared.refusal.Refusal.{Refusal}
+use Rattle.cmf.proofs.Numbers.{number_positive}
+use Rattle.handset.specs.Refusals.{◌unless◌}
+use Rattle.handset.proofs.Ordering.{none_unless}
 use Rattle.marker.specs.Key.{question, questions_of}
 use Rattle.marker.specs.Marking.{has_field, default_at, question_fits, questions_fit, verdict_of, same, verdict_on, share, sum_for, points_in, mark_refusal, marked, refusal_in}
 use Rattle.marker.specs.Table.{set_at, open_in, fits_by, no_points, sum_in, counted, marked_by, marked_all}
@@ -19,8 +24,7 @@ use Rattle.marker.specs.declared.key.Question.{Question}
 use Rattle.marker.specs.declared.verdict.Verdict.{Verdict}
 use Rattle.marker.specs.declared.verdict.Verdict.TheVariants as verdict
 use Rattle.marker.specs.declared.mark.Sums.{Sums}
-use Rattle.marker.specs.Answer.{Marked}
-use Rattle.marker.specs.Answer.{Marked as marks}
+use Rattle.marker.specs.Answer.{Marked, Marked as marks}
 use Rattle.marker.proofs.Keys.{first_question, few}
 use Rattle.marker.proofs.Tables.{number_at, at_taken_out, open_less}
 
@@ -170,6 +174,15 @@ unfolding counted sum_in
 counted_sum verdict.Right n y = omega arith
 counted_sum verdict.Wrong n y = omega arith
 counted_sum verdict.Blank n y = omega arith
+
+-- what the test of a question tells by its refusal
+pub fits_asked : (b : Bool) → 0 ≡ 15 unless b → b ≡ true
+fits_asked b e = none_unless 15 b (λ z. omega arith) (sym e)
+
+pub unfits_asked : (b : Bool) (r : Refusal) → refusals.number r ≡ 15 unless b → (b ≡ false) × (refusals.number r ≡ 15)
+unfolding ◌unless◌ when◌then◌else◌
+unfits_asked true r e = absurd (omega (arith, number_positive r, e))
+unfits_asked false r e = (refl, e)
 
 -- ---- the loop
 

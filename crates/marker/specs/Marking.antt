@@ -15,8 +15,7 @@ use Rattle.marker.specs.Key.{questions_of}
 use Rattle.marker.specs.declared.key.Question.{Question}
 use Rattle.marker.specs.declared.verdict.Verdict.{Verdict}
 use Rattle.marker.specs.declared.verdict.Verdict.TheVariants as verdict
-use Rattle.marker.specs.Answer.{Marked}
-use Rattle.marker.specs.Answer.{Marked as marks}
+use Rattle.marker.specs.Answer.{Marked, Marked as marks}
 use Rattle.marker.specs.declared.mark.Sums.{Sums}
 
 -- ---- one-byte fields

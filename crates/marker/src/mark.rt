@@ -3,6 +3,7 @@ ghost use Rattle.std.specs.Prelude.{◌≡◌, ◌-◌, ◌*◌, ◌≤◌, ◌<
 ghost use Rattle.laws.specs.Bytes.{byte_at};
 ghost use Rattle.cmf.specs.Limits.{most_fields};
 ghost use Rattle.cmf.specs.Refusals.{refusal_in};
+ghost use Rattle.handset.specs.Refusals.{◌unless◌};
 ghost use Rattle.marker.specs.Marking.{most_points, verdict_of, mark_refusal, as_marked, marked};
 ghost use Rattle.marker.specs.Table.{open_in, fits_by, no_points, sum_in, counted, marked_all};
 
@@ -57,18 +58,22 @@ impl Sums {
     }
 }
 
-// Whether a question fits, by the number of its place in the table: a one-byte field is there that no
-// question was about before, right byte and points are bytes, and the right byte is not the default.
-fn fits(q: Question, number: u16) -> bool
-    ensures { result ≡ fits_by number q }
+// A question, by the number of its place in the table: a one-byte field is there that no question was about
+// before, right byte and points are bytes, and the right byte is not the default.
+fn check_question(q: Question, number: u16) -> Result<(), Refusal>
+    ensures { refusal_in result ≡ (15 unless fits_by number q) }
 {
-    if number == 0 || q.right > Question::MAX_BYTE || q.right + 1 == number {
-        return false;
+    if number == 0
+        || q.right > Question::MAX_BYTE
+        || q.right + 1 == number
+        || q.points > Question::MAX_POINTS
+    {
+        return Err(Refusal::Key);
     }
-    q.points <= Question::MAX_POINTS
+    Ok(())
 }
 
-// The verdict on a question that fits.
+// The verdict on a question that fits, by that number.
 fn judge(q: Question, number: u16, sheet: &[u8]) -> Verdict
     requires { 0 < number }
     ensures { result ≡ verdict_of (number - 1) q.right (byte_at sheet.now q.place.0) }
@@ -91,9 +96,7 @@ fn mark_all(table: &mut [u16], sheet: &[u8], key: &[u16]) -> Result<Sums, Refusa
             points: *points,
         };
         let number = take_out(table, q.place);
-        if !fits(q, number) {
-            return Err(Refusal::Key);
-        }
+        check_question(q, number)?;
         sums = sums.with(judge(q, number, sheet), q.points);
         rest = after;
     }
