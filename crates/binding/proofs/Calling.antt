@@ -22,8 +22,7 @@ use Rattle.handset.specs.Refusals.{◌before◌, ◌unless◌, session_refusal}
 use Rattle.handset.specs.Open.{open_refusal, open_answer, open_sheet}
 use Rattle.handset.specs.Event.{event_refusal, event_step, event_sheet, refused_with}
 use Rattle.handset.specs.Draw.{draw_refusal, draw_cursor, drawn_picture}
-use Rattle.handset.specs.OptionText.{text_refusal, text_place}
-use Rattle.handset.specs.declared.option.TextPlace.{TextPlace}
+use Rattle.handset.specs.OptionText.{TextPlace, text_refusal, text_place}
 use Rattle.handset.specs.declared.open.Opened.{Opened}
 use Rattle.handset.proofs.Items.{shown_inside, shown_refusal}
 use Rattle.handset.proofs.Ordering.{first_given, next_given, holding, failing, none_before, Granted, session_granted}

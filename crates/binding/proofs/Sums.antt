@@ -10,8 +10,8 @@ use Rattle.laws.proofs.Cases.{by_test, if_true, if_false, if_eq, if_ne}
 use Rattle.handset.specs.Refusals.{◌unless◌}
 use Rattle.handset.proofs.Ordering.{first_given, next_given}
 use Rattle.marker.specs.Marking.{mark_refusal, marked, refusal_in, sums_in}
-use Rattle.marker.specs.declared.mark.Marked.{Marked}
-use Rattle.marker.specs.declared.mark.Marked.TheVariants as marks
+use Rattle.marker.specs.Answer.{Marked}
+use Rattle.marker.specs.Answer.{Marked as marks}
 use Rattle.marker.proofs.Promises.{marker_promises}
 use Rattle.binding.specs.Answers.{refused_by}
 use Rattle.binding.specs.Desk.{sums_refusal, mark_number, marked_sums, refused_room}

@@ -129,9 +129,8 @@ pub extern "C" fn handset_draw(
 pub extern "C" fn handset_option_text(image: &[u8], sheet: &[u8], place: usize, item: usize) -> u64
     ensures { result ≡ text_number image.now (length sheet.now) place item }
 {
-    let text = text_place(image, sheet, ImagePlace(place), item);
-    if text.refusal != 0 {
-        return REFUSED_TEXT + text.refusal as u64;
+    match text_place(image, sheet, ImagePlace(place), item) {
+        Ok(text) => PLACE * text.start.0 as u64 + text.length as u64,
+        Err(refusal) => REFUSED_TEXT + refusal.number() as u64,
     }
-    PLACE * text.start.0 as u64 + text.length as u64
 }

@@ -11,22 +11,22 @@ ghost use Rattle.binding.specs.Desk.{play_number, played_sheet, played_list, pla
 use crate::answer::{REFUSED, refused_by};
 use crate::calls::{byte_of, unsized_refusal};
 use cmf::refusal::Refusal;
-use marker::mark::{Marked, mark};
+use marker::mark::{Sums, mark};
 use playback::play::{check_listed, play};
 use record::recording::record;
 use session_bytes::layout::SIZE;
 use session_bytes::write::write_session;
 
-// Writes the sums to room for three; the number of the answer.
-fn give(sums: &mut [u32], right: u32, wrong: u32, blank: u32) -> u32
+// Writes the points to room for three sums; the number of the answer.
+fn give(sums: &mut [u32], points: Sums) -> u32
     ensures value { result ≡ (when length sums.old =? 3 then 0 else refused_room) }
     ensures sums_after { sums.new
-        ≡ (when length sums.old =? 3 then right ∷ wrong ∷ blank ∷ [] else sums.old) }
+        ≡ (when length sums.old =? 3 then points.right ∷ points.wrong ∷ points.blank ∷ [] else sums.old) }
 {
     if sums.len() == 3 {
-        sums[0] = right;
-        sums[1] = wrong;
-        sums[2] = blank;
+        sums[0] = points.right;
+        sums[1] = points.wrong;
+        sums[2] = points.blank;
         return 0;
     }
     REFUSED + Refusal::Room.number() as u32
@@ -39,14 +39,9 @@ pub extern "C" fn handset_mark(image: &[u8], sheet: &[u8], key: &[u16], sums: &m
     ensures sums_after { sums.new
         ≡ marked_sums image.now sheet.now key.now sums.old }
 {
-    let marked = mark(image, sheet, key);
-    match marked {
-        Marked::Sums {
-            right,
-            wrong,
-            blank,
-        } => give(sums, right, wrong, blank),
-        Marked::Refused(refusal) => refused_by(refusal),
+    match mark(image, sheet, key) {
+        Ok(points) => give(sums, points),
+        Err(refusal) => refused_by(refusal.number()),
     }
 }
 

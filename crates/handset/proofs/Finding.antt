@@ -23,8 +23,7 @@ use Rattle.acceptance.specs.declared.progress.Progress.{Progress}
 use Rattle.acceptance.proofs.Acceptance.{checked_places, index_read}
 use Rattle.handset.proofs.Ordering.{first_given, next_given}
 use Rattle.handset.specs.Refusals.{◌unless◌}
-use Rattle.handset.specs.OptionText.{items_in, text_refusal, text_span, text_place, option_text}
-use Rattle.handset.specs.declared.option.TextPlace.{TextPlace}
+use Rattle.handset.specs.OptionText.{TextPlace, items_in, text_refusal, text_span, text_place, option_text}
 
 found_left : (p : ℕ) (qs bs : List ℕ) → is_in p qs ≡ true → is_in p (qs ++ bs) ≡ true
 unfolding is_in when◌then◌else◌

@@ -21,8 +21,7 @@ use Rattle.cmf.proofs.Agreeing.{agree}
 use Rattle.acceptance.specs.Check.{refusal_of}
 use Rattle.acceptance.proofs.Acceptance.{accepted_exactly_when_well_formed, fields_are}
 use Rattle.acceptance.proofs.Fields.{held_is, every_table}
-use Rattle.handset.specs.OptionText.{items_in, text_refusal, text_span, text_place, option_text, ItemIs}
-use Rattle.handset.specs.declared.option.TextPlace.{TextPlace}
+use Rattle.handset.specs.OptionText.{TextPlace, items_in, text_refusal, text_span, text_place, option_text, ItemIs}
 use Rattle.handset.proofs.Ordering.{none_before, none_unless}
 use Rattle.handset.proofs.Finding.{place_none, place_some, place_refusal}
 

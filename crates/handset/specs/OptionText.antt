@@ -4,14 +4,16 @@ use Rattle.std.specs.Borrow.{Bor}
 use Rattle.laws.specs.Choice.{when◌then◌else◌, ◌and◌, ◌=?◌, ◌<?◌}
 use Rattle.laws.specs.Bytes.{byte_at}
 use Rattle.laws.specs.Parts.{part_at}
+use Rattle.field.specs.declared.kind.ImagePlace.{ImagePlace}
 use Rattle.field.specs.declared.kind.Kind.{Kind}
 use Rattle.field.specs.declared.kind.Kind.TheVariants.{Integer, Counter, Time, Date, Switch, Option, Trigger}
+use Rattle.cmf.specs.Refusals.{number}
 use Rattle.cmf.specs.declared.refusal.Refusal.{Refusal}
 use Rattle.cmf.specs.Readers.{item_place, component_at}
 use Rattle.cmf.specs.Places.{field_places, is_in}
 use Rattle.acceptance.specs.Check.{refusal_of}
 use Rattle.handset.specs.Refusals.{◌before◌, ◌unless◌}
-use Rattle.handset.specs.declared.option.TextPlace.{TextPlace}
+use Rattle.handset.specs.declared.option.TextSpan.{TextSpan}
 
 -- how many items a field has: only an option has any
 unfoldable pub items_in : Kind → ℕ
@@ -31,6 +33,11 @@ text_refusal im extent place item =
     and (item <? items_in (component_at im place).field.kind)))
 
 -- a refusal, or the place of a text's first byte and how many there are
+pub record TextPlace : Type 0 where
+  pub refusal : ℕ
+  pub start : ImagePlace
+  pub length : ℕ
+
 abbrev pub text_span : ℕ → ℕ → ℕ → TextPlace
 text_span k start n = record { refusal = k; start = record { 0 = start }; length = n }
 
@@ -46,6 +53,11 @@ text_place im extent place item =
 unfoldable pub option_text : List ℕ → ℕ → ℕ → ℕ → List ℕ
 option_text im extent place item =
     part_at (text_place im extent place item).start.0 (text_place im extent place item).length im
+
+-- the place that a call answers; a refusal answers its number
+abbrev pub place_in : Result TextSpan Refusal → TextPlace
+place_in (Ok t) = text_span 0 t.start.0 t.length
+place_in (Err r) = text_span (number r) 0 0
 
 -- the text that a call answers; a refusal answers an empty one
 abbrev pub text_in : Result (Bor (List ℕ)) Refusal → List ℕ

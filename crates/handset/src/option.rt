@@ -3,7 +3,8 @@ ghost use Rattle.std.specs.Prelude.{◌≡◌, length};
 ghost use Rattle.cmf.specs.Places.{is_in};
 ghost use Rattle.acceptance.specs.Index.{places_in};
 ghost use Rattle.cmf.specs.Refusals.{refusal_in};
-ghost use Rattle.handset.specs.OptionText.{items_in, text_refusal, text_place, text_in, option_text};
+ghost use Rattle.handset.specs.OptionText.{items_in, text_refusal, text_place, place_in};
+ghost use Rattle.handset.specs.OptionText.{option_text, text_in};
 
 use acceptance::index::entry_at;
 use cmf::component::read_component;
@@ -13,11 +14,9 @@ use field::kind::{ImagePlace, Kind};
 use laws::byte_at;
 use walk::check::check;
 
-// Where an item's own bytes are in the image: the place of the first and how many; both 0 where the call is
-// refused.
+// Where an item's own bytes are in the image: the place of the first and how many.
 #[derive(Clone, Copy)]
-pub struct TextPlace {
-    pub refusal: u8,
+pub struct TextSpan {
     pub start: ImagePlace,
     pub length: usize,
 }
@@ -55,22 +54,20 @@ fn check_item(image: &[u8], extent: usize, place: usize, item: usize) -> Result<
 }
 
 // Where an item's text is.
-pub fn text_place(image: &[u8], sheet: &[u8], place: ImagePlace, item: usize) -> TextPlace
-    ensures { result ≡ text_place image.now (length sheet.now) place.0 item }
+pub fn text_place(
+    image: &[u8],
+    sheet: &[u8],
+    place: ImagePlace,
+    item: usize,
+) -> Result<TextSpan, Refusal>
+    ensures { place_in result ≡ text_place image.now (length sheet.now) place.0 item }
 {
-    if let Err(refusal) = check_item(image, sheet.len(), place.0, item) {
-        return TextPlace {
-            refusal: refusal.number(),
-            start: ImagePlace(0),
-            length: 0,
-        };
-    }
+    check_item(image, sheet.len(), place.0, item)?;
     let text = item_place(image, place.0, item);
-    TextPlace {
-        refusal: 0,
+    Ok(TextSpan {
         start: ImagePlace(text + 1),
         length: byte_at(image, text) as usize,
-    }
+    })
 }
 
 // An item's text.

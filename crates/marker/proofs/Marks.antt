@@ -12,15 +12,19 @@ use Rattle.laws.specs.Bytes.{byte_at}
 use Rattle.laws.proofs.Cases.{if_ind, by_test, if_true, if_false, if_eq, if_ne, and_l, and_r, and_true, and_false}
 use Rattle.field.specs.declared.record.Field.{Field}
 use Rattle.cmf.specs.Places.{is_in}
+use Rattle.cmf.specs.Refusals as refusals
+use Rattle.cmf.specs.declared.refusal.Refusal.{Refusal}
+use Rattle.cmf.proofs.Numbers.{number_positive}
+use Rattle.handset.specs.Refusals.{◌unless◌}
+use Rattle.handset.proofs.Ordering.{none_unless}
 use Rattle.marker.specs.Key.{question, questions_of}
 use Rattle.marker.specs.Marking.{has_field, default_at, question_fits, questions_fit, verdict_of, same, verdict_on, share, sum_for, points_in, mark_refusal, marked, refusal_in}
 use Rattle.marker.specs.Table.{set_at, open_in, fits_by, no_points, sum_in, counted, marked_by, marked_all}
 use Rattle.marker.specs.declared.key.Question.{Question}
 use Rattle.marker.specs.declared.verdict.Verdict.{Verdict}
 use Rattle.marker.specs.declared.verdict.Verdict.TheVariants as verdict
-use Rattle.marker.specs.declared.mark.Tally.{Tally}
-use Rattle.marker.specs.declared.mark.Marked.{Marked}
-use Rattle.marker.specs.declared.mark.Marked.TheVariants as marks
+use Rattle.marker.specs.declared.mark.Sums.{Sums}
+use Rattle.marker.specs.Answer.{Marked, Marked as marks}
 use Rattle.marker.proofs.Keys.{first_question, few}
 use Rattle.marker.proofs.Tables.{number_at, at_taken_out, open_less}
 
@@ -98,7 +102,7 @@ pub sums_same : {a b c x y z : ℕ} → a ≡ x → b ≡ y → c ≡ z → ◌�
 sums_same p q r = rw (p, q, r)
 
 -- points counted before and after
-added : (v : Verdict) (n : ℕ) (y : Tally) (a b c : ℕ)
+added : (v : Verdict) (n : ℕ) (y : Sums) (a b c : ℕ)
     → ◌≡◌ {A = Marked} (marks.Sums ((counted v n y).right + a) ((counted v n y).wrong + b) ((counted v n y).blank + c))
     (marks.Sums (y.right + ((when same verdict.Right v then n else 0) + a)) (y.wrong + ((when same verdict.Wrong v then n else 0) + b))
     (y.blank + ((when same verdict.Blank v then n else 0) + c)))
@@ -109,15 +113,15 @@ added verdict.Blank n y a b c = sums_same (omega arith) (omega arith) (omega ari
 
 module _ (fs : List Field) (sheet : List ℕ) where
   -- the sums with those of questions that are left
-  abbrev pub summed : List Question → Tally → Marked
+  abbrev pub summed : List Question → Sums → Marked
   summed qs y = marks.Sums (y.right + sum_for fs sheet verdict.Right qs) (y.wrong + sum_for fs sheet verdict.Wrong qs)
       (y.blank + sum_for fs sheet verdict.Blank qs)
 
-  summed_next : (q : Question) (qs : List Question) (y : Tally) → summed qs (counted (verdict_on fs sheet q) q.points y) ≡ summed (q ∷ qs) y
+  summed_next : (q : Question) (qs : List Question) (y : Sums) → summed qs (counted (verdict_on fs sheet q) q.points y) ≡ summed (q ∷ qs) y
   unfolding sum_for share
   summed_next q qs y = added (verdict_on fs sheet q) q.points y _ _ _
 
-  summed_last : (y : Tally) → summed [] y ≡ marks.Sums y.right y.wrong y.blank
+  summed_last : (y : Sums) → summed [] y ≡ marks.Sums y.right y.wrong y.blank
   unfolding sum_for
   summed_last y = sums_same (omega arith) (omega arith) (omega arith)
 
@@ -126,7 +130,7 @@ module _ (fs : List Field) (sheet : List ℕ) where
   unfolding verdict_on
   judged q earlier t k e = ap (λ (d : ℕ). verdict_of d q.right (byte_at sheet q.place.0)) (default_known fs earlier t q k e)
 
-  pub marked_known : (qs : List Question) (earlier t : List ℕ) (y : Tally) → Knows fs earlier t
+  pub marked_known : (qs : List Question) (earlier t : List ℕ) (y : Sums) → Knows fs earlier t
       → marked_by t sheet qs y ≡ (when questions_fit fs earlier qs then summed qs y else marks.Refused 15)
   unfolding marked_by questions_fit
   marked_known [] earlier t y k =
@@ -165,16 +169,25 @@ points_open fs (q ∷ qs) earlier t k h =
       points_open fs qs (q.place.0 ∷ earlier) (set_at q.place.0 0 t) (knows_next fs earlier t q.place.0 k) (and_r _ _ h),
     )
 
-counted_sum : (v : Verdict) (n : ℕ) (y : Tally) → sum_in (counted v n y) ≡ sum_in y + n
+counted_sum : (v : Verdict) (n : ℕ) (y : Sums) → sum_in (counted v n y) ≡ sum_in y + n
 unfolding counted sum_in
 counted_sum verdict.Right n y = omega arith
 counted_sum verdict.Wrong n y = omega arith
 counted_sum verdict.Blank n y = omega arith
 
+-- what the test of a question tells by its refusal
+pub fits_asked : (b : Bool) → 0 ≡ 15 unless b → b ≡ true
+fits_asked b e = none_unless 15 b (λ z. omega arith) (sym e)
+
+pub unfits_asked : (b : Bool) (r : Refusal) → refusals.number r ≡ 15 unless b → (b ≡ false) × (refusals.number r ≡ 15)
+unfolding ◌unless◌ when◌then◌else◌
+unfits_asked true r e = absurd (omega (arith, number_positive r, e))
+unfits_asked false r e = (refl, e)
+
 -- ---- the loop
 
 -- at the end: the numbers of a key make whole questions, or some are over
-module _ (t sheet key : List ℕ) (u l : List ℕ) (y : Tally) (w : length l < 3) (o : length l % 3 ≡ length key % 3) where
+module _ (t sheet key : List ℕ) (u l : List ℕ) (y : Sums) (w : length l < 3) (o : length l % 3 ≡ length key % 3) where
   pub none_over : marked_by u sheet (questions_of l) y ≡ marked_by t sheet (questions_of key) no_points → length l ≡ 0
       → marks.Sums y.right y.wrong y.blank ≡ marked_all t sheet key
   unfolding marked_by marked_all
@@ -198,7 +211,7 @@ stopped t sheet key e = if_ind (λ (m : Marked). marks.Refused 15 ≡ m) ((lengt
 
 -- at a question
 
-module _ (t sheet l : List ℕ) (y : Tally) (q : Question) (n : ℕ) (h : 3 ≤ length l) (e : q ≡ question (get_or l 0 0) (get_or l 1 0) (get_or l 2 0))
+module _ (t sheet l : List ℕ) (y : Sums) (q : Question) (n : ℕ) (h : 3 ≤ length l) (e : q ≡ question (get_or l 0 0) (get_or l 1 0) (get_or l 2 0))
     (f : n ≡ get_or t q.place.0 0) where
   next_is : questions_of l ≡ q ∷ questions_of (drop 3 l)
   next_is = first_question l h ∙ ap (λ (x : Question). x ∷ questions_of (drop 3 l)) (sym e)
@@ -207,7 +220,7 @@ module _ (t sheet l : List ℕ) (y : Tally) (q : Question) (n : ℕ) (h : 3 ≤ 
   unfolding marked_by
   stops_here b = ap (λ (qs : List Question). marked_by t sheet qs y) next_is ∙ if_false _ _ (ap (λ (m : ℕ). fits_by m q) (sym f) ∙ b)
 
-  module _ (b : fits_by n q ≡ true) {u : List ℕ} {v : Verdict} {x : Tally} (g : u ≡ set_at q.place.0 0 t)
+  module _ (b : fits_by n q ≡ true) {u : List ℕ} {v : Verdict} {x : Sums} (g : u ≡ set_at q.place.0 0 t)
       (j : v ≡ verdict_of (n - 1) q.right (byte_at sheet q.place.0)) (k : x ≡ counted v q.points y) where
     pub goes_on : (r : List ℕ) → r ≡ drop 3 l → marked_by t sheet (questions_of l) y ≡ marked_by u sheet (questions_of r) x
     unfolding marked_by

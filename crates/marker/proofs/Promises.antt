@@ -30,7 +30,7 @@ use Rattle.marker.specs.Promises.{OneByte, ByteFieldAt, KeyFault, Judged, Counts
 use Rattle.marker.specs.declared.key.Question.{Question}
 use Rattle.marker.specs.declared.verdict.Verdict.{Verdict}
 use Rattle.marker.specs.declared.verdict.Verdict.TheVariants as verdict
-use Rattle.marker.specs.declared.mark.Marked.TheVariants as marks
+use Rattle.marker.specs.Answer.{Marked as marks}
 use Rattle.marker.proofs.Naming.{field_exactly, default_is, promised}
 use Rattle.marker.proofs.Starts.{few_points, refused_order, by_key}
 use Rattle.marker.proofs.Faults as faults

@@ -6,22 +6,27 @@ use mathlib.Core.Bool.{Bool, true}
 use mathlib.Core.List.{List, []}
 use native.Mathlib.Omega.{arith}
 use lib.ListN.{length, get_or, take, length-map, get_or-eq_default}
+use Rattle.std.specs.Prelude.{Result, Ok, Err}
 use borrow.Author.Tests.{ltb-true, ltb-false}
 use Rattle.laws.specs.Choice.{when◌then◌else◌, ◌=?◌, ◌<?◌}
 use Rattle.laws.specs.Overwrite.{fit}
 use Rattle.laws.proofs.Cases.{by_test, if_true, if_false, if_eq, if_ne, and_r, and_true, and_false}
 use Rattle.laws.proofs.Overwriting.{length_fit, fit_at, take_fit}
 use Rattle.field.specs.declared.record.Field.{Field}
+use Rattle.cmf.specs.Refusals as refusals
+use Rattle.cmf.specs.Refusals.{number}
+use Rattle.cmf.specs.declared.refusal.Refusal.{Refusal}
+use Rattle.cmf.proofs.Numbers.{number_positive}
 use Rattle.cmf.specs.Places.{fields_of, field_places}
 use Rattle.acceptance.specs.Check.{refusal_of}
 use Rattle.handset.specs.Refusals.{◌before◌, ◌unless◌}
 use Rattle.handset.specs.Fields.{places_listed}
 use Rattle.marker.specs.Key.{questions_of}
-use Rattle.marker.specs.Marking.{key_fits, mark_refusal, points_in, sum_of, marked, refusal_in}
+use Rattle.marker.specs.Marking.{key_fits, mark_refusal, points_in, sum_of, as_marked, marked, refusal_in}
 use Rattle.marker.specs.Table.{with_fields, fields_read, open_in, no_points, marked_all}
 use Rattle.marker.specs.declared.verdict.Verdict.TheVariants as verdict
-use Rattle.marker.specs.declared.mark.Marked.{Marked}
-use Rattle.marker.specs.declared.mark.Marked.TheVariants as marks
+use Rattle.marker.specs.Answer.{Marked as marks}
+use Rattle.marker.specs.declared.mark.Sums.{Sums}
 use Rattle.marker.proofs.Tables.{entered, open_fields}
 use Rattle.marker.proofs.Naming.{fields_below, few_fields, fields_read_lem}
 use Rattle.marker.proofs.Marks.{Knows, knows_first, points_open, sums_same, summed, marked_known, number_told}
@@ -76,22 +81,28 @@ refused_order im extent key = refl
 pub by_key : (im : List ℕ) (extent : ℕ) (key : List ℕ) → refusal_of im extent ≡ 0 → mark_refusal im extent key ≡ (when key_fits (fields_of im) key then 0 else 15)
 by_key im extent key z = refused_order im extent key ∙ if_eq _ 0 _ _ z
 
+-- the code's answer has the number that its form here has
+number_same : (r : Result Sums Refusal) → refusals.refusal_in r ≡ refusal_in (as_marked r)
+unfolding refusal_in
+number_same (Ok s) = refl
+number_same (Err r) = refl
+
 module _ (im sheet key : List ℕ) (k : ℕ) (q : k ≡ refusal_of im (length sheet)) where
   -- an answer has its number
-  abbrev Answers : Marked → Type 0
-  Answers r = (r ≡ marked im sheet key) × (refusal_in r ≡ mark_refusal im (length sheet) key)
+  abbrev Answers : Result Sums Refusal → Type 0
+  Answers r = (as_marked r ≡ marked im sheet key) × (refusals.refusal_in r ≡ mark_refusal im (length sheet) key)
 
-  with_number : (r : Marked) → r ≡ marked im sheet key → Answers r
-  with_number r e = (e, number_told im sheet key r e)
+  with_number : (r : Result Sums Refusal) → as_marked r ≡ marked im sheet key → Answers r
+  with_number r e = (e, number_same r ∙ number_told im sheet key (as_marked r) e)
 
-  -- the answer where n is refused
-  refused_with_lem : (n : ℕ) → (n ≡ 0 → ⊥) → mark_refusal im (length sheet) key ≡ n → Answers (marks.Refused n)
+  -- the answer where r is the refusal
+  refused_with_lem : (r : Refusal) → mark_refusal im (length sheet) key ≡ number r → Answers (Err r)
   unfolding marked
-  refused_with_lem n h e = with_number (marks.Refused n) (sym (if_ne _ 0 _ _ (λ z. h (sym e ∙ z)) ∙ ap marks.Refused e))
+  refused_with_lem r e = with_number (Err r) (sym (if_ne _ 0 _ _ (λ (z : mark_refusal im (length sheet) key ≡ 0). omega (arith, number_positive r, sym e ∙ z)) ∙ ap marks.Refused e))
 
-  pub image_refused : (k ≡ 0 → ⊥) → Answers (marks.Refused k)
+  pub image_refused : (r : Refusal) → k ≡ number r → Answers (Err r)
   unfolding mark_refusal ◌before◌
-  image_refused h = refused_with_lem k h (if_ne _ 0 _ _ (λ z. h (q ∙ z)) ∙ sym q)
+  image_refused r e = refused_with_lem r (if_ne _ 0 _ _ (λ (z : refusal_of im (length sheet) ≡ 0). omega (arith, number_positive r, sym e ∙ q ∙ z)) ∙ sym q ∙ e)
 
   module _ (z : k ≡ 0) where
     accepted : refusal_of im (length sheet) ≡ 0
@@ -133,5 +144,5 @@ module _ (im sheet key : List ℕ) (k : ℕ) (q : k ≡ refusal_of im (length sh
       pub table_open : open_in u ≤ 256
       table_open = rw table_is (few_open im (length sheet) accepted)
 
-      pub answered : (r : Marked) → r ≡ marked_all u sheet key → Answers r
+      pub answered : (r : Result Sums Refusal) → as_marked r ≡ marked_all u sheet key → Answers r
       answered r e = with_number r (e ∙ ap (λ (x : List ℕ). marked_all x sheet key) table_is ∙ known_marks)

@@ -1,4 +1,5 @@
 pub mod Key
+pub mod Answer
 pub mod Marking
 pub mod Table
 pub mod Promises

@@ -1,11 +1,13 @@
 -- 02, No. 1: what a sheet gets by a key. A question is about the byte of a one-byte field, which counts as
 -- right, wrong or blank.
-use Rattle.std.specs.Prelude.{ℕ, ◌+◌, ◌%◌, Bool, true, false, not, List, [], ◌∷◌, length}
+use Rattle.std.specs.Prelude.{ℕ, ◌+◌, ◌%◌, Bool, true, false, not, List, [], ◌∷◌, length, Result, Ok, Err}
 use Rattle.laws.specs.Choice.{when◌then◌else◌, ◌and◌, ◌=?◌, ◌≤?◌}
 use Rattle.laws.specs.Bytes.{byte_at}
 use Rattle.field.specs.Values.{bytes_of}
 use Rattle.field.specs.Sheet.{size_of}
 use Rattle.field.specs.declared.record.Field.{Field}
+use Rattle.cmf.specs.Refusals.{number}
+use Rattle.cmf.specs.declared.refusal.Refusal.{Refusal}
 use Rattle.cmf.specs.Places.{is_in, fields_of}
 use Rattle.acceptance.specs.Check.{refusal_of}
 use Rattle.handset.specs.Refusals.{◌before◌, ◌unless◌}
@@ -13,8 +15,8 @@ use Rattle.marker.specs.Key.{questions_of}
 use Rattle.marker.specs.declared.key.Question.{Question}
 use Rattle.marker.specs.declared.verdict.Verdict.{Verdict}
 use Rattle.marker.specs.declared.verdict.Verdict.TheVariants as verdict
-use Rattle.marker.specs.declared.mark.Marked.{Marked}
-use Rattle.marker.specs.declared.mark.Marked.TheVariants as marks
+use Rattle.marker.specs.Answer.{Marked, Marked as marks}
+use Rattle.marker.specs.declared.mark.Sums.{Sums}
 
 -- ---- one-byte fields
 
@@ -116,6 +118,11 @@ marked im sheet key =
     then marks.Sums (sum_of im sheet key verdict.Right) (sum_of im sheet key verdict.Wrong)
     (sum_of im sheet key verdict.Blank)
     else marks.Refused (mark_refusal im (length sheet) key)
+
+-- what the code answers, with a refusal by its number
+abbrev pub as_marked : Result Sums Refusal → Marked
+as_marked (Ok s) = marks.Sums s.right s.wrong s.blank
+as_marked (Err r) = marks.Refused (number r)
 
 -- the numbers of an answer: its refusal, 0 for none
 unfoldable pub refusal_in : Marked → ℕ

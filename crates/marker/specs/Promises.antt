@@ -22,7 +22,7 @@ use Rattle.marker.specs.Marking.{points_in, sum_of, marked, refusal_in, sums_in}
 use Rattle.marker.specs.declared.key.Question.{Question}
 use Rattle.marker.specs.declared.verdict.Verdict.{Verdict}
 use Rattle.marker.specs.declared.verdict.Verdict.TheVariants as verdict
-use Rattle.marker.specs.declared.mark.Marked.TheVariants as marks
+use Rattle.marker.specs.Answer.{Marked as marks}
 
 -- ---- one-byte fields
 

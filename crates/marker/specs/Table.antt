@@ -12,9 +12,8 @@ use Rattle.marker.specs.Marking.{largest_byte, most_points, verdict_of}
 use Rattle.marker.specs.declared.key.Question.{Question}
 use Rattle.marker.specs.declared.verdict.Verdict.{Verdict}
 use Rattle.marker.specs.declared.verdict.Verdict.TheVariants as verdict
-use Rattle.marker.specs.declared.mark.Tally.{Tally}
-use Rattle.marker.specs.declared.mark.Marked.{Marked}
-use Rattle.marker.specs.declared.mark.Marked.TheVariants as marks
+use Rattle.marker.specs.declared.mark.Sums.{Sums}
+use Rattle.marker.specs.Answer.{Marked, Marked as marks}
 
 -- ---- the table
 
@@ -47,22 +46,22 @@ unfoldable pub fits_by : ℕ → Question → Bool
 fits_by n q = when n =? 0 then false else (when largest_byte <? q.right then false
     else (when q.right + 1 =? n then false else q.points ≤? most_points))
 
-abbrev pub tally : ℕ → ℕ → ℕ → Tally
+abbrev pub tally : ℕ → ℕ → ℕ → Sums
 tally right wrong blank = record { right = right; wrong = wrong; blank = blank }
 
-abbrev pub no_points : Tally
+abbrev pub no_points : Sums
 no_points = tally 0 0 0
 
-unfoldable pub sum_in : Tally → ℕ
+unfoldable pub sum_in : Sums → ℕ
 sum_in y = y.right + y.wrong + y.blank
 
-unfoldable pub counted : Verdict → ℕ → Tally → Tally
+unfoldable pub counted : Verdict → ℕ → Sums → Sums
 counted verdict.Right n y = tally (y.right + n) y.wrong y.blank
 counted verdict.Wrong n y = tally y.right (y.wrong + n) y.blank
 counted verdict.Blank n y = tally y.right y.wrong (y.blank + n)
 
 -- question after question, up to the first that does not fit
-unfoldable pub marked_by : List ℕ → List ℕ → List Question → Tally → Marked
+unfoldable pub marked_by : List ℕ → List ℕ → List Question → Sums → Marked
 marked_by t sheet [] y = marks.Sums y.right y.wrong y.blank
 marked_by t sheet (q ∷ qs) y =
     when fits_by (get_or t q.place.0 0) q

@@ -2,7 +2,9 @@
 ghost use Rattle.std.specs.Prelude.{◌≡◌, ◌-◌, ◌*◌, ◌≤◌, ◌<◌, length};
 ghost use Rattle.laws.specs.Bytes.{byte_at};
 ghost use Rattle.cmf.specs.Limits.{most_fields};
-ghost use Rattle.marker.specs.Marking.{most_points, verdict_of, mark_refusal, marked, refusal_in};
+ghost use Rattle.cmf.specs.Refusals.{refusal_in};
+ghost use Rattle.handset.specs.Refusals.{◌unless◌};
+ghost use Rattle.marker.specs.Marking.{most_points, verdict_of, mark_refusal, as_marked, marked};
 ghost use Rattle.marker.specs.Table.{open_in, fits_by, no_points, sum_in, counted, marked_all};
 
 use crate::key::Question;
@@ -14,26 +16,19 @@ use field::kind::SheetPlace;
 use handset::fields::list_fields;
 use laws::byte_at;
 
-// The points right, wrong and blank; or the refusal number, and no sums.
+// The points right, wrong and blank.
 #[derive(Clone, Copy)]
-pub enum Marked {
-    Sums { right: u32, wrong: u32, blank: u32 },
-    Refused(u8),
+pub struct Sums {
+    pub right: u32,
+    pub wrong: u32,
+    pub blank: u32,
 }
 
-// The points counted so far.
-#[derive(Clone, Copy)]
-struct Tally {
-    right: u32,
-    wrong: u32,
-    blank: u32,
-}
-
-impl Tally {
+impl Sums {
     fn none() -> Self
         ensures { result ≡ no_points }
     {
-        Tally {
+        Self {
             right: 0,
             wrong: 0,
             blank: 0,
@@ -47,44 +42,38 @@ impl Tally {
     {
         let points = points as u32;
         match verdict {
-            Verdict::Right => Tally {
+            Verdict::Right => Self {
                 right: self.right + points,
                 ..self
             },
-            Verdict::Wrong => Tally {
+            Verdict::Wrong => Self {
                 wrong: self.wrong + points,
                 ..self
             },
-            Verdict::Blank => Tally {
+            Verdict::Blank => Self {
                 blank: self.blank + points,
                 ..self
             },
         }
     }
-
-    fn sums(self) -> Marked
-        ensures { result ≡ Marked.Sums self.right self.wrong self.blank }
-    {
-        Marked::Sums {
-            right: self.right,
-            wrong: self.wrong,
-            blank: self.blank,
-        }
-    }
 }
 
-// Whether a question fits, by the number of its place in the table: a one-byte field is there that no
-// question was about before, right byte and points are bytes, and the right byte is not the default.
-fn fits(q: Question, number: u16) -> bool
-    ensures { result ≡ fits_by number q }
+// A question, by the number of its place in the table: a one-byte field is there that no question was about
+// before, right byte and points are bytes, and the right byte is not the default.
+fn check_question(q: Question, number: u16) -> Result<(), Refusal>
+    ensures { refusal_in result ≡ (15 unless fits_by number q) }
 {
-    if number == 0 || q.right > Question::MAX_BYTE || q.right + 1 == number {
-        return false;
+    if number == 0
+        || q.right > Question::MAX_BYTE
+        || q.right + 1 == number
+        || q.points > Question::MAX_POINTS
+    {
+        return Err(Refusal::Key);
     }
-    q.points <= Question::MAX_POINTS
+    Ok(())
 }
 
-// The verdict on a question that fits.
+// The verdict on a question that fits, by that number.
 fn judge(q: Question, number: u16, sheet: &[u8]) -> Verdict
     requires { 0 < number }
     ensures { result ≡ verdict_of (number - 1) q.right (byte_at sheet.now q.place.0) }
@@ -94,11 +83,11 @@ fn judge(q: Question, number: u16, sheet: &[u8]) -> Verdict
 
 // Marks question after question, up to the first that does not fit. A key with numbers left over after its
 // last question does not fit.
-fn mark_all(table: &mut [u16], sheet: &[u8], key: &[u16]) -> Marked
+fn mark_all(table: &mut [u16], sheet: &[u8], key: &[u16]) -> Result<Sums, Refusal>
     requires { open_in table.old ≤ most_fields }
-    ensures { result ≡ marked_all table.old sheet.now key.now }
+    ensures { as_marked result ≡ marked_all table.old sheet.now key.now }
 {
-    let mut tally = Tally::none();
+    let mut sums = Sums::none();
     let mut rest = key;
     while let [place, right, points, after @ ..] = rest {
         let q = Question {
@@ -107,28 +96,23 @@ fn mark_all(table: &mut [u16], sheet: &[u8], key: &[u16]) -> Marked
             points: *points,
         };
         let number = take_out(table, q.place);
-        if !fits(q, number) {
-            return Marked::Refused(Refusal::Key.number());
-        }
-        tally = tally.with(judge(q, number, sheet), q.points);
+        check_question(q, number)?;
+        sums = sums.with(judge(q, number, sheet), q.points);
         rest = after;
     }
     if !rest.is_empty() {
-        return Marked::Refused(Refusal::Key.number());
+        return Err(Refusal::Key);
     }
-    tally.sums()
+    Ok(sums)
 }
 
-// 2 to 11 for image and sheet, then 15 for the key, or the sums.
-pub fn mark(image: &[u8], sheet: &[u8], key: &[u16]) -> Marked
-    ensures value { result ≡ marked image.now sheet.now key.now }
-    ensures result_value { refusal_in result
+// The refusal of image and sheet, then that of the key, or the sums.
+pub fn mark(image: &[u8], sheet: &[u8], key: &[u16]) -> Result<Sums, Refusal>
+    ensures value { as_marked result ≡ marked image.now sheet.now key.now }
+    ensures refusal_value { refusal_in result
         ≡ mark_refusal image.now (length sheet.now) key.now }
 {
-    let fields = match list_fields(image, sheet.len()) {
-        Ok(fields) => fields,
-        Err(refusal) => return Marked::Refused(refusal.number()),
-    };
+    let fields = list_fields(image, sheet.len())?;
     let (places, _) = fields.places.split_at(fields.count);
     let mut table = [0u16; Image::MAX_SHEET];
     enter_all(image, places, &mut table);

@@ -9,8 +9,8 @@ use Rattle.marker.proofs.mark.mark_all.Given as goal
 
 abbrev pub invariant-loop-rest : goal.invariant-loop-rest
 invariant-loop-rest l = record {
-  marks : marked_by l.table l.sheet (questions_of l.rest) l.tally ≡ marked_by l.initial.table l.sheet (questions_of l.key) no_points;
-  room : sum_in l.tally + 255 * open_in l.table ≤ 65280;
+  marks : marked_by l.table l.sheet (questions_of l.rest) l.sums ≡ marked_by l.initial.table l.sheet (questions_of l.key) no_points;
+  room : sum_in l.sums + 255 * open_in l.table ≤ 65280;
   over : length l.rest % 3 ≡ length l.key % 3;
 }
 

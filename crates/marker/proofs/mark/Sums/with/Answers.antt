@@ -1,7 +1,7 @@
 -- By the verdict; the sums have room by what is required.
 use native.Mathlib.Omega.{arith}
 use Rattle.marker.specs.Table.{sum_in, counted}
-use Rattle.marker.proofs.mark.Tally.with.Goals as goal
+use Rattle.marker.proofs.mark.Sums.with.Goals as goal
 
 pub overflow_add-result : goal.overflow_add-result
 unfolding sum_in
