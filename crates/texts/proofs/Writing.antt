@@ -11,6 +11,8 @@ use Rattle.laws.proofs.Cases.{by_test}
 use Rattle.laws.specs.Choice.{◌≤?◌}
 use Rattle.laws.specs.Overwrite.{fit, over}
 use Rattle.laws.proofs.Overwriting.{length_over, length_fit, over_cons, over_nil, over_out, over_over, over_all, over_back}
+use Rattle.laws.specs.Parts.{put_at}
+use Rattle.laws.proofs.Storing.{put_over}
 use Rattle.texts.specs.Row.{Put}
 
 -- ---- one after the other
@@ -55,7 +57,16 @@ over_cut (x ∷ d) zero (suc n) [] e = refl
 over_cut (x ∷ d) zero (suc n) (y ∷ s) e = ap (λ (r : List ℕ). y ∷ r) (over_cut d zero n s (omega arith))
 over_cut (x ∷ d) (suc at) n s e = ap (λ (r : List ℕ). x ∷ r) (over_cut d at n s (omega arith))
 
-pub put_part : (d s e : List ℕ) (at n : ℕ) → at < length d → n ≡ min (length s) (length d - at) → e ≡ take n s
+pub put_copied : (d s e : List ℕ) (at n : ℕ) → at < length d → n ≡ min (length s) (length d - at) → e ≡ put_at at (take n s) d
+    → Put d at s e (at + n)
+put_copied d s e at n h q p =
+    let l : length (take n s) ≡ n = length-take-le n s (omega arith) in
+    record {
+      is = p ∙ put_over at (take n s) d (omega (arith, l)) ∙ over_cut d at n s q;
+      ends = omega arith;
+    }
+
+put_part : (d s e : List ℕ) (at n : ℕ) → at < length d → n ≡ min (length s) (length d - at) → e ≡ take n s
     → Put d at s (take at d ++ (e ++ drop (at + n - at) (drop at d))) (at + n)
 put_part d s e at n h q p =
     let z : at + n - at ≡ n = omega arith in

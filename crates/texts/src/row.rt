@@ -25,9 +25,8 @@ pub fn put_all(row: &mut [u8], at: usize, text: &[u8]) -> usize
         return row.len();
     }
     let count = text.len().min(row.len() - at);
-    let end = at + count;
-    row[at..end].copy_from_slice(&text[..count]);
-    end
+    laws::put_bytes(row, at, &text[..count]);
+    at + count
 }
 
 pub fn repeat(row: &mut [u8], at: usize, byte: u8, count: usize) -> usize
