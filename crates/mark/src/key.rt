@@ -10,7 +10,7 @@ use cmf::refusal::Refusal;
 use console::words::Refused;
 use handset::refusal::check_image;
 use laws::word_at;
-use marker::mark::{Marked, mark};
+use marker::mark::mark;
 use std::alloc::{AllocError, Global};
 use std::io;
 
@@ -52,14 +52,10 @@ pub fn mark_by(
     }
     let key = numbers_of(rt.alloc(), bytes)?;
     match mark(image, sheet, &key) {
-        Marked::Sums {
-            right,
-            wrong,
-            blank,
-        } => {
+        Ok(sums) => {
             say_questions(rt, image, sheet, &key)?;
-            say_sums(rt, right, wrong, blank)
+            say_sums(rt, sums)
         }
-        Marked::Refused(number) => println!(rt; "{}", Refused(number)),
+        Err(refusal) => println!(rt; "{}", Refused::from(refusal)),
     }
 }

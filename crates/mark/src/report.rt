@@ -7,6 +7,7 @@ use field::kind::{ImagePlace, SheetPlace};
 use handset::fields::list_fields;
 use laws::byte_at;
 use marker::key::{Question, is_byte_at, question_at};
+use marker::mark::Sums;
 use marker::verdict::Verdict;
 use std::io;
 
@@ -75,7 +76,12 @@ pub fn say_questions(
 }
 
 // The sums that the marker answered.
-pub fn say_sums(out: &impl Print, right: u32, wrong: u32, blank: u32) -> io::Result<()> {
+pub fn say_sums(out: &impl Print, sums: Sums) -> io::Result<()> {
+    let Sums {
+        right,
+        wrong,
+        blank,
+    } = sums;
     let points = right as usize + wrong as usize + blank as usize;
     println!(out;
         "right {right}, wrong {wrong}, blank {blank}, of {}",

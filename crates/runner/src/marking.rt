@@ -1,7 +1,7 @@
 // Cases of the marker: a sheet marked by a key.
 use crate::Case;
 use crate::reading::{read_full, read_word};
-use marker::mark::{Marked, mark};
+use marker::mark::mark;
 use std::io;
 
 // How many numbers the key of a case can have.
@@ -21,12 +21,8 @@ impl Case<'_, '_> {
             key.push(read_word(rt)?)?;
         }
         match mark(self.image, self.sheet, &key) {
-            Marked::Sums {
-                right,
-                wrong,
-                blank,
-            } => print!(rt; "0 {right} {wrong} {blank}"),
-            Marked::Refused(refusal) => print!(rt; "{refusal}"),
+            Ok(sums) => print!(rt; "0 {} {} {}", sums.right, sums.wrong, sums.blank),
+            Err(refusal) => print!(rt; "{}", refusal.number()),
         }
     }
 }

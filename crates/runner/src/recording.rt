@@ -17,13 +17,11 @@ impl Case<'_, '_> {
     // image, and the room for a sheet.
     pub fn record(&mut self, rt: &impl Print) -> io::Result<()> {
         self.sheet.fill(UNWRITTEN);
-        let recorded = record(self.image, self.sheet);
-        print!(rt;
-            "{} {} {}",
-            recorded.refusal,
-            recorded.length,
-            Hex(self.sheet)
-        )
+        let (refusal, length) = match record(self.image, self.sheet) {
+            Ok(length) => (0, length),
+            Err(refusal) => (refusal.number(), 0),
+        };
+        print!(rt; "{refusal} {length} {}", Hex(self.sheet))
     }
 
     // The input goes on with the count of the list's entries and the record's length, two bytes each, and the

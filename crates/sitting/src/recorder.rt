@@ -22,10 +22,11 @@ pub fn record_events(
         return Ok(());
     }
     let mut room = vec![in rt.alloc(); 0u8; ROOM]?;
-    let recorded = record(events, &mut room);
-    if recorded.refusal != 0 {
-        return println!(rt; "{}", Refused(recorded.refusal));
+    match record(events, &mut room) {
+        Ok(length) => {
+            room.truncate(length);
+            write_named(rt, RECORD, &room, usage)
+        }
+        Err(refusal) => println!(rt; "{}", Refused::from(refusal)),
     }
-    room.truncate(recorded.length);
-    write_named(rt, RECORD, &room, usage)
 }

@@ -21,8 +21,10 @@ const USAGE: &str = "usage: transcript IMAGE RECORD";
 
 // The events of a record that was not refused: the bytes from the first of them on.
 fn events_of(recorded: &[u8]) -> &[u8] {
-    let checked = check_record(recorded);
-    recorded.get(checked.start..).unwrap_or(&[])
+    match check_record(recorded) {
+        Ok(events) => recorded.get(events.start..).unwrap_or(&[]),
+        Err(_) => &[],
+    }
 }
 
 // Plays a record on an image, and tells what was pressed.
