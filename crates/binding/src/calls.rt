@@ -89,19 +89,14 @@ pub extern "C" fn handset_event(
         ≡ (event_step image.now sheet.old
         (session_from session.old) event).session }
 {
-    let stepped = handset::event::event(
-        image,
-        &mut *sheet,
-        read_session(&*session),
-        byte_of(event),
-    );
+    let stepped = handset::event::event(image, sheet, read_session(session), byte_of(event));
     let answer = stepped.answer;
     let number = answer.number();
     if REFUSED <= number {
         return number;
     }
     let next = stepped.session;
-    write_session(&mut *session, next);
+    write_session(session, next);
     number
 }
 

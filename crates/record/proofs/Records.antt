@@ -100,7 +100,7 @@ module _ (es room : List ℕ) where
     in_three =
         let good = is_good es (length room) z in
         let fits = is_long es (length room) z in
-        let l2 = length_record es good in
+        let whole = length_record es good in
         let g = one_group 1 (omega arith) in
         let l : length (encoded 1) ≡ 1 = ap length g in
         let b = behind_fits 0 (encoded 1) room (omega arith) in

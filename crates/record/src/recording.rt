@@ -21,7 +21,7 @@ fn are_events(events: &[u8]) -> bool
     events.iter().all(|e| *e <= Session::SECOND)
 }
 
-// Events for a record in room of so many bytes; the record's length.
+// Tests events that are to be recorded in room of so many bytes; the length of their record.
 fn check_recording(events: &[u8], room: usize) -> Result<usize, Refusal>
     ensures refusal_value { refusal_in result ≡ recording_refusal events.now room }
     ensures length_value { IfOk result (λ n. n ≡ length (record_of events.now)) }
