@@ -9,7 +9,7 @@ ghost use Rattle.picture.specs.Rows.{edit_mark, line_number, more_mark, title_ro
 ghost use Rattle.picture.specs.Marks.{Tells, Enough};
 
 use cmf::head::read_head;
-use cmf::place::{first_editable};
+use cmf::place::first_editable;
 use cmf::text::text_bytes;
 use field::kind::ImagePlace;
 use laws::byte_at;

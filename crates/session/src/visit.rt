@@ -9,7 +9,7 @@ ghost use Rattle.keys.specs.declared.press.Outcome.TheVariants as outcome;
 use crate::answer::{Answer, Stepped};
 use crate::session::{Mode, Session};
 use cmf::component::read_component;
-use cmf::place::{next_editable};
+use cmf::place::next_editable;
 use field::kind::{ImagePlace, Kind};
 use field::profile::{cell_of, profile_of};
 use field::record::Field;

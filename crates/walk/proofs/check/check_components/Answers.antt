@@ -20,9 +20,9 @@ returns-then-is_some c =
     let size = ap (λ (n : ℕ). n / 3) c.loop.invariant.1 in
     record {
       index_after = elim c.then-is_some.branch [
-        then-is_some-via-then-is_some w ↦ sym (c.loop.invariant.0 ∙ components_stop _ _ _ _ left _ _ _ _ (omega arith) size c.read_component-component.ensures c.take_component-v.ensures.index_after (refused_number _ c.is_some.ensures w.if-is_some.true))
+        | then-is_some-via-then-is_some w ↦ sym (c.loop.invariant.0 ∙ components_stop _ _ _ _ left _ _ _ _ (omega arith) size c.read_component-component.ensures c.take_component-v.ensures.index_after (refused_number _ c.is_some.ensures w.if-is_some.true))
         | then-is_some-via-else-is_some+then-component w ↦
-          sym (c.loop.invariant.0 ∙ components_last _ _ _ _ left _ _ _ _ (omega arith) size c.read_component-component.ensures c.take_component-v.ensures.index_after (unrefused_number _ c.is_some.ensures w.if-is_some.false) w.if-component.true)
+            sym (c.loop.invariant.0 ∙ components_last _ _ _ _ left _ _ _ _ (omega arith) size c.read_component-component.ensures c.take_component-v.ensures.index_after (unrefused_number _ c.is_some.ensures w.if-is_some.false) w.if-component.true)
       ];
       stays_clean = λ h. c.take_component-v.ensures.stays_clean (c.loop.invariant.2 h);
     }

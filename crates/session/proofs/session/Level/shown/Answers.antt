@@ -8,10 +8,10 @@ use Rattle.session.proofs.session.Level.shown.Goals.{then-self-table-via-then-se
 pub returns-then-self-table : goal.returns-then-self-table
 returns-then-self-table c =
     elim c.then-self-table.branch [
-      then-self-table-via-then-self-table w ↦ sym (if_false _ _ (level_other _ _ _ c.args.self w.if-self-table.true))
+      | then-self-table-via-then-self-table w ↦ sym (if_false _ _ (level_other _ _ _ c.args.self w.if-self-table.true))
       | then-self-table-via-else-self-table+then-cursor-first w ↦ sym (if_false _ _ (level_above _ _ _ c.args.self w.if-cursor-first.true))
       | then-self-table-via-else-self-table+else-cursor-first+then-first-rows_below w ↦
-        sym (if_false _ _ (level_below _ _ _ c.args.self _ w.rows_below.ensures w.if-first-rows_below.true))
+          sym (if_false _ _ (level_below _ _ _ c.args.self _ w.rows_below.ensures w.if-first-rows_below.true))
     ]
 
 pub returns : goal.returns
