@@ -1,17 +1,18 @@
--- Bytes written at a place: parts beside them stay, and they are read back.
-use Prim.Native.Nat.{ℕ, ◌+◌, ◌≤◌, ◌<◌}
-use mathlib.Core.Path.{◌≡◌, refl}
+-- Bytes written at a place: parts beside them stay, they are read back, and a lent part may do the writing.
+use Prim.Native.Nat.{ℕ, ◌+◌, ◌-◌, ◌≤◌, ◌<◌}
+use mathlib.Core.Path.{◌≡◌, refl, ap, ◌∙◌}
+use mathlib.Core.Bool.{true, false}
 use mathlib.Core.Logic.{◌⊎◌, inl, inr}
 use mathlib.Core.List.{List, ◌++◌, append_assoc}
 use native.Mathlib.Omega.{arith}
 use native.Mathlib.Nat.{zero-add}
-use lib.ListN.{length, take, drop, length-append, length-drop}
-use lib.Seq.{take_at, drop_at, length-take-le}
-use borrow.Author.Tests.{leb-true}
+use lib.ListN.{length, take, drop, length-append, length-drop, take-append-drop}
+use lib.Seq.{take_at, drop_at, length-take-le, drop-drop}
+use borrow.Author.Tests.{leb-true, leb-false}
 use Rattle.laws.specs.Choice.{◌≤?◌}
 use Rattle.laws.specs.Parts.{part_at, put_at}
-use Rattle.laws.proofs.Cases.{if_ind, if_le, if_gt}
-use Rattle.laws.proofs.Lists.{part_before, part_after_lem}
+use Rattle.laws.proofs.Cases.{if_ind, if_le, if_gt, by_test}
+use Rattle.laws.proofs.Lists.{part_before, part_after_lem, part_tail, tail_back}
 
 module _ (at : ℕ) (b s : List ℕ) where
   -- where b does not fit nothing changes
@@ -50,6 +51,28 @@ module _ (at : ℕ) (b s : List ℕ) where
   pub put_out : length s < at + length b → put_at at b s ≡ s
   unfolding put_at
   put_out h = if_gt (at + length b) (length s) _ _ h
+
+  -- a part from a place on, written at its start and given back
+  put_lent : at ≤ length s → take at s ++ put_at 0 b (drop at s) ≡ put_at at b s
+  unfolding put_at
+  put_lent h = by_test ((at + length b) ≤? length s) fits out
+    where
+      fits : (at + length b) ≤? length s ≡ true → take at s ++ put_at 0 b (drop at s) ≡ put_at at b s
+      fits e =
+          let k = leb-true (at + length b) (length s) e in
+          let f : 0 + length b ≤ length (drop at s) = simp length-drop (omega arith) in
+          rw (if_le (at + length b) (length s) _ _ k, if_le (0 + length b) (length (drop at s)) _ _ f, zero-add, drop-drop)
+
+      out : (at + length b) ≤? length s ≡ false → take at s ++ put_at 0 b (drop at s) ≡ put_at at b s
+      out e =
+          let k = leb-false (at + length b) (length s) e in
+          let f : length (drop at s) < 0 + length b = simp length-drop (omega arith) in
+          rw (if_gt (at + length b) (length s) _ _ k, if_gt (0 + length b) (length (drop at s)) _ _ f, take-append-drop)
+
+  -- what a function learns that lent the part from a place on to one that writes b at its start
+  pub put_tail : (t : List ℕ) → at ≤ length s → t ≡ put_at 0 b (take (length s - at) (drop at s))
+      → take at s ++ (t ++ drop (length s - at) (drop at s)) ≡ put_at at b s
+  put_tail t h e = tail_back at s t ∙ ap (λ (l : List ℕ). take at s ++ l) (e ∙ rw part_tail) ∙ put_lent h
 
 -- b written at the start of p
 pub put_fits : (b p : List ℕ) → length b ≤ length p → put_at 0 b p ≡ b ++ drop (length b) p

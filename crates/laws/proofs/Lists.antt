@@ -1,10 +1,10 @@
 -- Lists read at a place: past the end, in a join, in a part; and what it takes for two parts to be the same.
 use Prim.Native.Nat.{ℕ, zero, suc, ◌+◌, ◌-◌, ◌≤◌, ◌<◌}
 use mathlib.Core.Path.{◌≡◌}
-use mathlib.Core.List.{List, [], ◌∷◌, ◌++◌}
+use mathlib.Core.List.{List, [], ◌∷◌, ◌++◌, append-nil}
 use native.Mathlib.Omega.{arith}
 use native.Mathlib.Nat.{zero-add, suc-add, le_of_suc-le-suc, not-suc-le-zero}
-use lib.ListN.{length, take, drop, get_or, length-take, length-drop, get_or-eq_default, get_or-append}
+use lib.ListN.{length, take, drop, get_or, length-take, length-drop, drop_of_length-le, get_or-eq_default, get_or-append}
 use lib.Seq.{take-nil, drop-nil, take-take, drop-drop, take_all, get_or-take, get_or-drop}
 use borrow.Author.Tests.{ltb-true, ltb-false}
 use Rattle.laws.specs.Choice.{when◌then◌else◌, ◌<?◌}
@@ -53,6 +53,10 @@ part_at_lem at n i s =
     let h = ltb-false i n e in
     rw (if_ge i n (get_or s (at + i) 0) 0 h) (get_or-eq_default (part_at at n s) 0 {n = i} (omega (arith, length-take n (drop at s)))))
 
--- a part from a place to the end
+-- a part from a place to the end: what is lent, and the whole once it is back
 pub part_tail : (at : ℕ) (s : List ℕ) → take (length s - at) (drop at s) ≡ drop at s
 part_tail at s = take_all (length s - at) (drop at s) (simp length-drop (omega arith))
+
+pub tail_back : (at : ℕ) (s t : List ℕ) → take at s ++ (t ++ drop (length s - at) (drop at s)) ≡ take at s ++ t
+tail_back at s t =
+    rw (drop_of_length-le (drop at s) {i = length s - at} (simp length-drop (omega arith)), append-nil)
