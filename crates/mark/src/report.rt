@@ -5,7 +5,7 @@ use cmf::component::read_component;
 use console::words::Count;
 use field::kind::{ImagePlace, SheetPlace};
 use handset::fields::list_fields;
-use laws::byte_at;
+use laws::{byte_at, has_triple};
 use marker::key::{Question, is_byte_at, question_at};
 use marker::mark::Sums;
 use marker::verdict::Verdict;
@@ -69,7 +69,10 @@ pub fn say_questions(
         return Ok(());
     };
     let places = fields.places.get(..fields.count).unwrap_or(&[]);
-    for i in 0..key.len() / 3 {
+    for i in 0..key.len() {
+        if !has_triple(key.len(), i) {
+            break;
+        }
         say_numbered(rt, image, sheet, places, i + 1, question_at(key, i))?;
     }
     Ok(())
