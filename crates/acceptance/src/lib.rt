@@ -4,5 +4,6 @@
 #![tactic(auto)]
 
 pub mod index;
+pub mod line_place;
 pub mod progress;
 pub mod shared;

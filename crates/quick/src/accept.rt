@@ -12,6 +12,7 @@ use crate::heads::{accept_head, next_of, submenu_of};
 use crate::position::Position;
 use crate::run::run;
 use crate::tally::Tally;
+use acceptance::line_place::LinePlace;
 use acceptance::shared::prolog_refusal;
 use cmf::image::Image;
 use cmf::title::read_title;
@@ -94,22 +95,22 @@ fn accept_table(
     }
     let below = left - 1;
     let mut v = w.past(title.end);
-    let mut n = 0;
-    let mut before = 0;
-    let mut p = title.line.0;
-    // Lines are passed several at a time, so n is no counter of a `for`.
-    while n < Image::MAX_TABLE_LINES {
-        let end = accept_head(image, n, before, p, v)?;
-        let head = Position::headed(v, n, p, end);
+    let mut next = LinePlace::first(title.line.0);
+    // Lines are passed several at a time, so their number is no counter of a `for`.
+    while next.number < Image::MAX_TABLE_LINES {
+        let end = accept_head(image, next, v)?;
+        let head = Position::headed(v, next.number, next.at, end);
         let s = pass_lines(image, extent, head, marks)?;
         let line = s.line.0;
         v = accept_submenu(image, extent, below, line, s.tally, marks)?;
         if image[line] / 2 % 2 == 1 {
             return Some(v);
         }
-        before = line;
-        p = next_of(image, line);
-        n = s.n + 1;
+        next = LinePlace {
+            number: s.n + 1,
+            before: line,
+            at: next_of(image, line),
+        };
     }
     None
 }

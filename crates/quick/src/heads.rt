@@ -7,6 +7,7 @@ ghost use Rattle.cmf.specs.Grammar.{submenu_table};
 ghost use Rattle.quick.specs.Accept.{Linked, Placed};
 
 use crate::tally::Tally;
+use acceptance::line_place::LinePlace;
 use cmf::head::{back_offset, options_length};
 use cmf::image::Image;
 use cmf::text::password_fits;
@@ -51,17 +52,16 @@ pub(crate) fn plain_end(image: &[u8], before: usize, p: usize, at: usize) -> Opt
     Some(end)
 }
 
-// Whether the mark of the first and the pointer back of the line at p agree with its place; n lines of its
-// table come before it.
-fn is_linked(image: &[u8], n: usize, before: usize, p: usize) -> bool
-    requires { (password_at image.now p ≤ length image.now) × (before ≤ p) }
-    ensures { result ≡ true → Linked image.now n before p }
+// Whether the mark of the first and the pointer back of a line agree with its place.
+fn is_linked(image: &[u8], line: LinePlace) -> bool
+    requires { (password_at image.now line.at ≤ length image.now) × (line.before ≤ line.at) }
+    ensures { result ≡ true → Linked image.now line.number line.before line.at }
 {
-    let tag = image[p];
-    if n == 0 {
+    let tag = image[line.at];
+    if line.number == 0 {
         return tag % 2 == 1;
     }
-    tag % 2 == 0 && word_in(image, p + back_offset(tag)) == p - before
+    tag % 2 == 0 && word_in(image, line.at + back_offset(tag)) == line.at - line.before
 }
 
 // Where the password at a place ends.
@@ -86,14 +86,14 @@ fn options_end(image: &[u8], p: usize) -> usize
     p + options_length(image[p])
 }
 
-// Where the head of any line ends, with n lines of its table before it.
-fn any_end(image: &[u8], n: usize, before: usize, p: usize) -> Option<usize>
-    requires { (p < length image.now) × (before ≤ p) }
-    ensures { IfSome result (λ end. Head image.now n before p end) }
+// Where the head of any line ends.
+fn any_end(image: &[u8], line: LinePlace) -> Option<usize>
+    requires { (line.at < length image.now) × (line.before ≤ line.at) }
+    ensures { IfSome result (λ end. Head image.now line.number line.before line.at end) }
 {
-    let tag = image[p];
-    let end = options_end(image, p);
-    if image.len() < end || !is_linked(image, n, before, p) {
+    let tag = image[line.at];
+    let end = options_end(image, line.at);
+    if image.len() < end || !is_linked(image, line) {
         return None;
     }
     if tag < 16 {
@@ -105,21 +105,18 @@ fn any_end(image: &[u8], n: usize, before: usize, p: usize) -> Option<usize>
     None
 }
 
-// Where the head of a line at p ends, if the line follows where the walk is and may be counted.
-pub(crate) fn accept_head(
-    image: &[u8],
-    n: usize,
-    before: usize,
-    p: usize,
-    w: Tally,
-) -> Option<usize>
-    requires { before ≤ p }
-    ensures { IfSome result (λ end. Placed image.now n before p w end) }
+// Where the head of a line ends, if the line follows where the walk is and may be counted.
+pub(crate) fn accept_head(image: &[u8], line: LinePlace, w: Tally) -> Option<usize>
+    requires { line.before ≤ line.at }
+    ensures { IfSome result (λ end. Placed image.now line.number line.before line.at w end) }
 {
-    if image.len() <= p || Image::MAX_LINES <= w.lines || !is_padded_to_odd(image, w.at, p) {
+    if image.len() <= line.at
+        || Image::MAX_LINES <= w.lines
+        || !is_padded_to_odd(image, w.at, line.at)
+    {
         return None;
     }
-    any_end(image, n, before, p)
+    any_end(image, line)
 }
 
 // The place of the table below the line at p: its pointer is the last of the options.

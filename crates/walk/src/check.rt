@@ -8,6 +8,7 @@ ghost use Rattle.acceptance.specs.Index.{capacity, seen, index_of};
 ghost use Rattle.acceptance.specs.Clean.{StaysClean};
 
 use acceptance::index::{Entry, apart_from, set_entry};
+use acceptance::line_place::LinePlace;
 use acceptance::progress::Progress;
 use acceptance::shared::{is_padded, prolog_refusal};
 use cmf::component::{Component, read_component};
@@ -38,23 +39,23 @@ fn take_title(t: Title, w: Progress) -> Progress
     }
 }
 
-// Whether a line's first mark and pointer back agree with the walk; n lines of its table come before it.
+// Whether a line's first mark and pointer back agree with its place.
 #[tactic(auto, using(laws::proofs::Cases::choices), unfolding(acceptance::specs::Check::agrees))]
-fn is_agreeing(image: &[u8], n: usize, before: usize, p: usize) -> bool
-    ensures { result ≡ agrees image.now n before p }
+fn is_agreeing(image: &[u8], line: LinePlace) -> bool
+    ensures { result ≡ agrees image.now line.number line.before line.at }
 {
-    let first = is_first(image, p);
-    if n == 0 {
+    let first = is_first(image, line.at);
+    if line.number == 0 {
         return first;
     }
-    !first && before <= p && back_at(image, p) == p - before
+    !first && line.before <= line.at && back_at(image, line.at) == line.at - line.before
 }
 
 #[tactic(auto, using(laws::proofs::Cases::choices), unfolding(acceptance::specs::Check::line_placed))]
-fn is_placed(image: &[u8], n: usize, before: usize, p: usize, w: Progress) -> bool
-    ensures { result ≡ line_placed image.now n before p w }
+fn is_placed(image: &[u8], line: LinePlace, w: Progress) -> bool
+    ensures { result ≡ line_placed image.now line.number line.before line.at w }
 {
-    p == w.at + (1 - w.at % 2) && is_padded(image, w.at, p) && is_agreeing(image, n, before, p)
+    line.at == w.at + (1 - w.at % 2) && is_padded(image, w.at, line.at) && is_agreeing(image, line)
 }
 
 #[tactic(auto, using(laws::proofs::Cases::choices), unfolding(acceptance::specs::Check::count_line))]
@@ -75,14 +76,14 @@ fn count_line(n: usize, h: Head, w: Progress) -> Progress
     }
 }
 
-// A line's head at p.
+// The head of a line.
 #[tactic(auto, using(laws::proofs::Cases::choices), unfolding(acceptance::specs::Check::take_line))]
-fn take_line(image: &[u8], n: usize, before: usize, p: usize, h: Head, w: Progress) -> Progress
-    ensures { result ≡ take_line image.now n before p h w }
+fn take_line(image: &[u8], line: LinePlace, h: Head, w: Progress) -> Progress
+    ensures { result ≡ take_line image.now line.number line.before line.at h w }
 {
     match h.refusal {
         Some(refusal) => w.refused(refusal),
-        None if is_placed(image, n, before, p, w) => count_line(n, h, w),
+        None if is_placed(image, line, w) => count_line(line.number, h, w),
         None => w.refused(Refusal::Form),
     }
 }
@@ -174,26 +175,25 @@ fn check_components(
     v
 }
 
-// A line at p, with n lines of its table before it; `below` levels are left for its submenu.
+// A line; `below` levels are left for its submenu.
 #[cycle(check_line_check_table)]
 fn check_line(
     image: &[u8],
     extent: usize,
     below: usize,
-    n: usize,
-    before: usize,
-    p: usize,
+    line: LinePlace,
     w: Progress,
     index: &mut [usize],
 ) -> Progress
     ensures index_after { seen result index.new
         ≡ on_line image.now extent (capacity index.old)
-        (on_table image.now extent (capacity index.old) below) n before p
+        (on_table image.now extent (capacity index.old) below)
+        line.number line.before line.at
         (seen w index.old) }
     ensures stays_clean { StaysClean w.fields index.old result.fields index.new }
 {
-    let h = read_head(image, p);
-    let v = take_line(image, n, before, p, h, w);
+    let h = read_head(image, line.at);
+    let v = take_line(image, line, h, w);
     if v.refusal.is_some() {
         return v;
     }
@@ -232,19 +232,17 @@ fn check_table(
         return v.refused(Refusal::Limit);
     }
     let below = left - 1;
-    let mut before = 0;
-    let mut p = t.line.0;
-    for n in 0..Image::MAX_TABLE_LINES + 1 {
-        v = check_line(image, extent, below, n, before, p, v, index);
+    let mut line = LinePlace::first(t.line.0);
+    for _ in 0..Image::MAX_TABLE_LINES + 1 {
+        v = check_line(image, extent, below, line, v, index);
         if v.refusal.is_some() {
             return v;
         }
-        let h = read_head(image, p);
+        let h = read_head(image, line.at);
         if h.last {
             return v;
         }
-        before = p;
-        p = h.next.0;
+        line = line.next(h.next.0);
     }
     v
 }

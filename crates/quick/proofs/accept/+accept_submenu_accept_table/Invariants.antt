@@ -5,11 +5,11 @@ use Rattle.quick.specs.Accept.{AmongLines}
 use Prim.Native.Nat.{◌+◌, ◌-◌, ◌≤◌}
 use Rattle.quick.proofs.accept.+accept_submenu_accept_table.Given as goal
 
-abbrev pub invariant-accept_table-loop-n : goal.invariant-accept_table-loop-n
-invariant-accept_table-loop-n l = ((AmongLines l.image l.extent l.below l.initial.p l.initial.v l.initial.marks l.n l.before l.p l.v l.marks) × (length l.marks ≡ length l.initial.marks)) × (l.before ≤ l.p)
+abbrev pub invariant-accept_table-loop-next : goal.invariant-accept_table-loop-next
+invariant-accept_table-loop-next l = ((AmongLines l.image l.extent l.below l.initial.next.at l.initial.v l.initial.marks l.next.number l.next.before l.next.at l.v l.marks) × (length l.marks ≡ length l.initial.marks)) × (l.next.before ≤ l.next.at)
 
-abbrev pub decreases-accept_table-loop-n : goal.decreases-accept_table-loop-n
-decreases-accept_table-loop-n l = 99 - l.n
+abbrev pub decreases-accept_table-loop-next : goal.decreases-accept_table-loop-next
+decreases-accept_table-loop-next l = 99 - l.next.number
 
 abbrev pub decreases-accept_submenu : goal.decreases-accept_submenu
 decreases-accept_submenu l = l.below + l.below + 1

@@ -37,29 +37,29 @@ check_table-returns-then-is_some t c = record { index_after = table_stop _ _ _ _
 pub check_table-returns-then-left-eq0 : goal.check_table-returns-then-left-eq0
 check_table-returns-then-left-eq0 t c = record { index_after = table_deep _ _ _ _ _ _ _ _ _ c.read_title-t.ensures c.take_title-v.ensures _ (unrefused_number _ c.is_some.ensures c.if-is_some.false) c.if-left-eq0.true c.refused.ensures; stays_clean = λ h. rw c.refused.ensures (clean_title _ _ _ c.take_title-v.ensures h) }
 
-pub check_table-loop-n-init : goal.check_table-loop-n-init
-check_table-loop-n-init t c = (refl, refl, λ h. h)
+pub check_table-loop-init : goal.check_table-loop-init
+check_table-loop-init t c = (rw c.first-line.ensures refl, refl, (λ h. h), rw c.first-line.ensures refl)
 
 pub check_table-check_line-v-requires : goal.check_table-check_line-v-requires
 check_table-check_line-v-requires t c = (omega arith, tt)
 
 pub check_table-shape_of-index-then-is_some-2 : goal.check_table-shape_of-index-then-is_some-2
-check_table-shape_of-index-then-is_some-2 t c = c.check_line-v.auto.index ∙ c.loop-n.invariant.1
+check_table-shape_of-index-then-is_some-2 t c = c.check_line-v.auto.index ∙ c.loop.invariant.1
 
 pub check_table-returns-then-is_some-2 : goal.check_table-returns-then-is_some-2
-check_table-returns-then-is_some-2 t c = record { index_after = sym (table_lines _ _ _ _ _ _ _ _ _ c.read_title-t.ensures c.take_title-v.ensures (unrefused_number _ c.is_some.ensures c.if-is_some.false) c.if-left-eq0.false ∙ c.loop-n.invariant.0 ∙ lines_stop _ _ _ _ _ _ _ _ _ _ c.loop-n-test.true (ap (λ (n : ℕ). n / 3) c.loop-n.invariant.1) c.check_line-v.ensures.index_after (refused_number _ c.is_some-in-loop-n.ensures c.if-is_some-2.true)); stays_clean = λ h. c.check_line-v.ensures.stays_clean (c.loop-n.invariant.2 (clean_title _ _ _ c.take_title-v.ensures h)) }
+check_table-returns-then-is_some-2 t c = record { index_after = sym (table_lines _ _ _ _ _ _ _ _ _ c.read_title-t.ensures c.take_title-v.ensures (unrefused_number _ c.is_some.ensures c.if-is_some.false) c.if-left-eq0.false ∙ (rw c.first-line.ensures at c.loop.invariant.0) ∙ lines_stop _ _ _ _ _ _ _ _ _ _ (omega (arith, c.loop.invariant.3)) (ap (λ (n : ℕ). n / 3) c.loop.invariant.1) c.check_line-v.ensures.index_after (refused_number _ c.is_some-in-loop.ensures c.if-is_some-2.true)); stays_clean = λ h. c.check_line-v.ensures.stays_clean (c.loop.invariant.2 (clean_title _ _ _ c.take_title-v.ensures h)) }
 
 pub check_table-shape_of-index-then-h : goal.check_table-shape_of-index-then-h
-check_table-shape_of-index-then-h t c = c.check_line-v.auto.index ∙ c.loop-n.invariant.1
+check_table-shape_of-index-then-h t c = c.check_line-v.auto.index ∙ c.loop.invariant.1
 
 pub check_table-returns-then-h : goal.check_table-returns-then-h
-check_table-returns-then-h t c = record { index_after = sym (table_lines _ _ _ _ _ _ _ _ _ c.read_title-t.ensures c.take_title-v.ensures (unrefused_number _ c.is_some.ensures c.if-is_some.false) c.if-left-eq0.false ∙ c.loop-n.invariant.0 ∙ lines_last _ _ _ _ _ _ _ _ _ _ c.loop-n-test.true (ap (λ (n : ℕ). n / 3) c.loop-n.invariant.1) c.check_line-v.ensures.index_after _ c.read_head-h.ensures (unrefused_number _ c.is_some-in-loop-n.ensures c.if-is_some-2.false) c.if-h.true); stays_clean = λ h. c.check_line-v.ensures.stays_clean (c.loop-n.invariant.2 (clean_title _ _ _ c.take_title-v.ensures h)) }
+check_table-returns-then-h t c = record { index_after = sym (table_lines _ _ _ _ _ _ _ _ _ c.read_title-t.ensures c.take_title-v.ensures (unrefused_number _ c.is_some.ensures c.if-is_some.false) c.if-left-eq0.false ∙ (rw c.first-line.ensures at c.loop.invariant.0) ∙ lines_last _ _ _ _ _ _ _ _ _ _ (omega (arith, c.loop.invariant.3)) (ap (λ (n : ℕ). n / 3) c.loop.invariant.1) c.check_line-v.ensures.index_after _ c.read_head-h.ensures (unrefused_number _ c.is_some-in-loop.ensures c.if-is_some-2.false) c.if-h.true); stays_clean = λ h. c.check_line-v.ensures.stays_clean (c.loop.invariant.2 (clean_title _ _ _ c.take_title-v.ensures h)) }
 
-pub check_table-loop-n-preserved : goal.check_table-loop-n-preserved
-check_table-loop-n-preserved t c = (c.loop-n.invariant.0 ∙ lines_next _ _ _ _ _ _ _ _ _ _ c.loop-n-test.true (ap (λ (n : ℕ). n / 3) c.loop-n.invariant.1) c.check_line-v.ensures.index_after _ c.read_head-h.ensures (unrefused_number _ c.is_some-in-loop-n.ensures c.if-is_some-2.false) c.if-h.false, c.check_line-v.auto.index ∙ c.loop-n.invariant.1, λ h. c.check_line-v.ensures.stays_clean (c.loop-n.invariant.2 h))
+pub check_table-loop-preserved : goal.check_table-loop-preserved
+check_table-loop-preserved t c = rw c.next-line.ensures (c.loop.invariant.0 ∙ lines_next _ _ _ _ _ _ _ _ _ _ (omega (arith, c.loop.invariant.3)) (ap (λ (n : ℕ). n / 3) c.loop.invariant.1) c.check_line-v.ensures.index_after _ c.read_head-h.ensures (unrefused_number _ c.is_some-in-loop.ensures c.if-is_some-2.false) c.if-h.false, c.check_line-v.auto.index ∙ c.loop.invariant.1, (λ h. c.check_line-v.ensures.stays_clean (c.loop.invariant.2 h)), omega (arith, c.loop.invariant.3))
 
 pub check_table-shape_of-index : goal.check_table-shape_of-index
-check_table-shape_of-index t c = c.loop-n.invariant.1
+check_table-shape_of-index t c = c.loop.invariant.1
 
 pub check_table-returns : goal.check_table-returns
-check_table-returns t c = record { index_after = sym (table_lines _ _ _ _ _ _ _ _ _ c.read_title-t.ensures c.take_title-v.ensures (unrefused_number _ c.is_some.ensures c.if-is_some.false) c.if-left-eq0.false ∙ c.loop-n.invariant.0 ∙ lines_done _ _ _ _ _ _ _ _ c.loop-n-test.false); stays_clean = λ h. c.loop-n.invariant.2 (clean_title _ _ _ c.take_title-v.ensures h) }
+check_table-returns t c = record { index_after = sym (table_lines _ _ _ _ _ _ _ _ _ c.read_title-t.ensures c.take_title-v.ensures (unrefused_number _ c.is_some.ensures c.if-is_some.false) c.if-left-eq0.false ∙ (rw c.first-line.ensures at c.loop.invariant.0) ∙ lines_done _ _ _ _ _ _ _ _ (omega (arith, c.loop.invariant.3, c.loop-test.false))); stays_clean = λ h. c.loop.invariant.2 (clean_title _ _ _ c.take_title-v.ensures h) }

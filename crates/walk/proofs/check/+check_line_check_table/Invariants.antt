@@ -8,8 +8,8 @@ use Rattle.acceptance.specs.Clean.{StaysClean}
 use Rattle.cmf.specs.Places.{lines_from}
 use Rattle.walk.proofs.check.+check_line_check_table.Given as goal
 
-abbrev pub invariant-check_table-loop-n : goal.invariant-check_table-loop-n
-invariant-check_table-loop-n l = (on_lines l.image l.extent (capacity l.initial.index) (on_table l.image l.extent (capacity l.initial.index) l.below) 0 0 (lines_from l.image 100 l.initial.p) (seen l.initial.v l.initial.index) ≡ on_lines l.image l.extent (capacity l.initial.index) (on_table l.image l.extent (capacity l.initial.index) l.below) l.n l.before (lines_from l.image (100 - l.n) l.p) (seen l.v l.index)) × (length l.index ≡ length l.initial.index) × StaysClean l.initial.v.fields l.initial.index l.v.fields l.index
+abbrev pub invariant-check_table-loop : goal.invariant-check_table-loop
+invariant-check_table-loop l = (on_lines l.image l.extent (capacity l.initial.index) (on_table l.image l.extent (capacity l.initial.index) l.below) 0 0 (lines_from l.image 100 l.initial.line.at) (seen l.initial.v l.initial.index) ≡ on_lines l.image l.extent (capacity l.initial.index) (on_table l.image l.extent (capacity l.initial.index) l.below) l.line.number l.line.before (lines_from l.image (100 - l.line.number) l.line.at) (seen l.v l.index)) × (length l.index ≡ length l.initial.index) × StaysClean l.initial.v.fields l.initial.index l.v.fields l.index × (l.line.number ≡ l.counter)
 
 abbrev pub decreases-check_line : goal.decreases-check_line
 decreases-check_line l = l.below + l.below + 1
