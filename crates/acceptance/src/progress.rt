@@ -4,8 +4,8 @@ ghost use Rattle.acceptance.specs.Check.{refused, read_to, past_line};
 
 use cmf::refusal::Refusal;
 
-// The refusal, if there is one by now; where the last structure without fault ended; how many lines and fields
-// are without fault.
+// The refusal, if there is one by now; where the last structure without fault ended; how many lines and
+// fields are without fault.
 #[derive(Clone, Copy)]
 pub struct Progress {
     pub refusal: Option<Refusal>,
