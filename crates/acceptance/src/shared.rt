@@ -1,4 +1,4 @@
-// What the check and the quick walk ask alike, the prolog, and the check's test of the padding before a place.
+// What the check and the quick walk ask alike, the prolog, and the check's test of padding before a place.
 ghost use Rattle.std.specs.Prelude.{◌≡◌, ◌+◌, ◌<◌};
 ghost use Rattle.laws.specs.Choice.{◌and◌, ◌=?◌};
 ghost use Rattle.laws.specs.Bytes.{byte_at};
