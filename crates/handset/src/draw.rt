@@ -12,9 +12,7 @@ use picture::cursor::{EditCursor, edit_cursor};
 use picture::picture::put_picture;
 use session::session::Session;
 
-// A picture of so many bytes for a display of so many columns and lines. It stays a call, so that the compiler
-// makes no multiplication of bytes of it, which `tests/no_division.py` would take for a division's.
-#[inline(never)]
+// A picture of so many bytes for a display of so many columns and lines.
 #[tactic(auto, using(crate::proofs::Ordering::tested))]
 fn check_picture(columns: u8, lines: u8, length: usize) -> Result<(), Refusal>
     ensures { refusal_in result ≡ (1 unless (length =? columns * lines)) }

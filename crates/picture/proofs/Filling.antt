@@ -10,7 +10,7 @@ use borrow.Author.Tests.{leb-true}
 use Rattle.laws.specs.Choice.{◌<?◌}
 use Rattle.laws.specs.Overwrite.{fit, over}
 use Rattle.laws.proofs.Overwriting.{length_over, length_fit, over_next, over_nil, over_all, over_back}
-use Rattle.laws.proofs.Cases.{if_ind, if_true, if_false, if_eq, if_ne, and_l, and_r}
+use Rattle.laws.proofs.Cases.{if_ind, if_true, if_false, if_eq, if_ne, and_l, and_r, by_test}
 use Rattle.cmf.specs.Readers.{text_bytes, head_at}
 use Rattle.cmf.specs.Places.{components_of, line_at, line_count}
 use Rattle.cmf.specs.declared.head.Head.{Head}
@@ -145,9 +145,12 @@ module _ (im sheet : List ℕ) (s : Session) (d : List ℕ) where
   unfolding filled
   no_shape h = sym (if_false _ _ h)
 
-  pub no_size : shape_fits s.columns s.lines ≡ true → (length d ≡ s.columns * s.lines → ⊥) → d ≡ filled im sheet s d
+  pub no_size : (length d ≡ s.columns * s.lines → ⊥) → d ≡ filled im sheet s d
   unfolding filled
-  no_size h n = sym (if_true _ _ h ∙ if_ne (length d) (s.columns * s.lines) _ _ n)
+  no_size n =
+      by_test (shape_fits s.columns s.lines)
+      (λ h. sym (if_true _ _ h ∙ if_ne (length d) (s.columns * s.lines) _ _ n))
+      no_shape
 
   pub is_filled : shape_fits s.columns s.lines ≡ true → length d ≡ s.columns * s.lines → picture_of im sheet s ≡ filled im sheet s d
   unfolding filled

@@ -153,15 +153,16 @@ fn write_picture(image: &[u8], sheet: &[u8], session: &Session, picture: &mut [u
 }
 
 // Writes the picture; nothing, where no display has the session's shape or the picture has another number of
-// bytes.
+// bytes. The number is looked at first: by what a legal shape is, the compiler would make a multiplication of
+// bytes of it, which looks like a division's.
 pub fn put_picture(image: &[u8], sheet: &[u8], session: Session, picture: &mut [u8])
     ensures { picture.new
         ≡ filled image.now sheet.now session picture.old }
 {
-    if !shape_fits(session.columns, session.lines) {
+    if picture.len() != session.columns as usize * session.lines as usize {
         return;
     }
-    if picture.len() != session.columns as usize * session.lines as usize {
+    if !shape_fits(session.columns, session.lines) {
         return;
     }
     write_picture(image, sheet, &session, picture);

@@ -8,7 +8,7 @@ pub returns-then-not-shape_fits : goal.returns-then-not-shape_fits
 returns-then-not-shape_fits c = no_shape c.args.image.now c.args.sheet.now c.args.session c.args.picture.now (via c.shape_fits.ensures c.if-not-shape_fits.true)
 
 pub returns-then-picture-session : goal.returns-then-picture-session
-returns-then-picture-session c = no_size c.args.image.now c.args.sheet.now c.args.session c.args.picture.now (via c.shape_fits.ensures c.if-not-shape_fits.false) c.if-picture-session.true
+returns-then-picture-session c = no_size c.args.image.now c.args.sheet.now c.args.session c.args.picture.now c.if-picture-session.true
 
 pub returns : goal.returns
 returns c = c.write_picture.ensures ∙ is_filled c.args.image.now c.args.sheet.now c.args.session c.args.picture.now (via c.shape_fits.ensures c.if-not-shape_fits.false) c.if-picture-session.false
