@@ -1,6 +1,5 @@
 // Where a line stands, in its table and in the image.
-ghost use Rattle.std.specs.Prelude.{◌≡◌, ◌+◌, ◌≤◌};
-ghost use Rattle.cmf.specs.Limits.{most_lines_of_table};
+ghost use Rattle.std.specs.Prelude.{◌≡◌, ◌+◌, ◌-◌, ◌^◌, min};
 
 // The line at a place of the image: so many lines of its table come before it, the last of them at `before`,
 // which is 0 for the first of a table.
@@ -23,13 +22,13 @@ impl LinePlace {
         }
     }
 
-    // The line that this one leads to.
+    // The line that this one leads to. No table has so many lines that the number would stop at its end.
     pub fn next(self, at: usize) -> Self
-        requires { self.number ≤ most_lines_of_table }
-        ensures { result ≡ record { number = self.number + 1; before = self.at; at = at } }
+        ensures { result
+            ≡ record { number = min (self.number + 1) (2 ^ 64 - 1); before = self.at; at = at } }
     {
         LinePlace {
-            number: self.number + 1,
+            number: self.number.saturating_add(1),
             before: self.at,
             at,
         }

@@ -1,6 +1,7 @@
 -- Each return is a step law of CodeSteps; the loop's invariant: what is left of the table's lines, done to the present state, is the whole. The depth left falls.
 use native.Mathlib.Omega.{arith}
-use Prim.Native.Nat.{ℕ, ◌/◌}
+use Prim.Native.Nat.{ℕ, ◌+◌, ◌/◌}
+use Rattle.std.proofs.Math.Nat.{min-eq_left}
 use mathlib.Core.Path.{refl, sym, ap, ◌∙◌}
 use Rattle.cmf.proofs.Numbers.{refused_number, unrefused_number}
 use Rattle.acceptance.proofs.Indexed.{clean_head, clean_title}
@@ -56,7 +57,9 @@ pub check_table-returns-then-h : goal.check_table-returns-then-h
 check_table-returns-then-h t c = record { index_after = sym (table_lines _ _ _ _ _ _ _ _ _ c.read_title-t.ensures c.take_title-v.ensures (unrefused_number _ c.is_some.ensures c.if-is_some.false) c.if-left-eq0.false ∙ (rw c.first-line.ensures at c.loop.invariant.0) ∙ lines_last _ _ _ _ _ _ _ _ _ _ (omega (arith, c.loop.invariant.3)) (ap (λ (n : ℕ). n / 3) c.loop.invariant.1) c.check_line-v.ensures.index_after _ c.read_head-h.ensures (unrefused_number _ c.is_some-in-loop.ensures c.if-is_some-2.false) c.if-h.true); stays_clean = λ h. c.check_line-v.ensures.stays_clean (c.loop.invariant.2 (clean_title _ _ _ c.take_title-v.ensures h)) }
 
 pub check_table-loop-preserved : goal.check_table-loop-preserved
-check_table-loop-preserved t c = rw c.next-line.ensures (c.loop.invariant.0 ∙ lines_next _ _ _ _ _ _ _ _ _ _ (omega (arith, c.loop.invariant.3)) (ap (λ (n : ℕ). n / 3) c.loop.invariant.1) c.check_line-v.ensures.index_after _ c.read_head-h.ensures (unrefused_number _ c.is_some-in-loop.ensures c.if-is_some-2.false) c.if-h.false, c.check_line-v.auto.index ∙ c.loop.invariant.1, (λ h. c.check_line-v.ensures.stays_clean (c.loop.invariant.2 h)), omega (arith, c.loop.invariant.3))
+check_table-loop-preserved t c =
+    let there = min-eq_left {n = c.loop.line.number + 1} {m = 18446744073709551615} (omega (arith, c.loop.invariant.3)) in
+    rw c.next-line.ensures (rw there (c.loop.invariant.0 ∙ lines_next _ _ _ _ _ _ _ _ _ _ (omega (arith, c.loop.invariant.3)) (ap (λ (n : ℕ). n / 3) c.loop.invariant.1) c.check_line-v.ensures.index_after _ c.read_head-h.ensures (unrefused_number _ c.is_some-in-loop.ensures c.if-is_some-2.false) c.if-h.false, c.check_line-v.auto.index ∙ c.loop.invariant.1, (λ h. c.check_line-v.ensures.stays_clean (c.loop.invariant.2 h)), omega (arith, c.loop.invariant.3)))
 
 pub check_table-shape_of-index : goal.check_table-shape_of-index
 check_table-shape_of-index t c = c.loop.invariant.1

@@ -1,7 +1,7 @@
 -- Each return is the case of the definition that the tests on its path choose.
 use mathlib.Core.Path.{refl}
 use Rattle.laws.specs.Choice.{when◌then◌else◌}
-use borrow.Author.Tests.{eq-eqb, ne_eqb}
+use borrow.Author.Tests.{ne_eqb}
 use mathlib.Core.Path.{◌≡◌}
 use Rattle.cmf.specs.Refusals.{refusal_number}
 use Rattle.cmf.proofs.Numbers.{refused_number}
