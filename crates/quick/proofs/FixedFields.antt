@@ -12,16 +12,13 @@ use Rattle.laws.specs.Bytes.{byte_at, word_at}
 use Rattle.field.specs.Formats.{format_of, numeral_of}
 use Rattle.field.specs.Calendar.{month_end}
 use Rattle.field.specs.Profiles.{profile_of}
-use Rattle.field.specs.Cells.{spans, biased, within, in_range}
+use Rattle.field.specs.Cells.{spans, in_range}
 use Rattle.field.specs.Settings.{step_fits, width_fits, settings_fit}
 use Rattle.field.specs.Sheet.{size_of}
 use Rattle.field.specs.Values.{number_of, value_at}
 use Rattle.field.specs.declared.kind.Kind.TheVariants.{Integer, Counter}
 use Rattle.field.specs.declared.record.Field.{Field}
-use borrow.Author.Tests.{le-leb}
-use Rattle.laws.proofs.Cases.{and_i}
 use Rattle.field.specs.declared.kind.CounterSettings.{CounterSettings}
-use Rattle.field.proofs.Ranges.{range_of_counter}
 use Rattle.field.proofs.Calendars.{end_most}
 use Rattle.field.proofs.Fitting.{two_bytes, three_bytes, four_bytes, integer_fits, counter_fits, time_fits, date_fits}
 use Rattle.cmf.specs.Limits.{most_fields}
@@ -63,11 +60,10 @@ module _ (im : List ℕ) (at end : ℕ) (inside : end ≤ length im) where
   -- ---- counters
 
   pub counter_is :
-      (s : CounterSettings) (x : ℕ) → byte_at im at % 32 ≡ 0x0d → end ≡ at + 15 → s ≡ counter_settings_at im at → x ≡ biased (word_at im (at + 12)) → s.min ≤ x → x ≤ s.max →
+      (s : CounterSettings) → byte_at im at % 32 ≡ 0x0d → end ≡ at + 15 → s ≡ counter_settings_at im at → in_range (Counter s) (word_at im (at + 12)) ≡ true →
       step_fits s ≡ true → width_fits s ≡ true → Held im at end 2
-  unfolding profile_of within
-  counter_is s x k e f y a b c d =
-      let r : in_range (Counter s) (word_at im (at + 12)) ≡ true = range_of_counter s (word_at im (at + 12)) ∙ rw (← y) (and_i (le-leb s.min x a) (le-leb x s.max b)) in
+  unfolding profile_of
+  counter_is s k e f r c d =
       let g : settings_fit (Counter s) (value_at (at + 12) 2 im) ≡ true = counter_fits s (value_at (at + 12) 2 im) c d (rw (two_bytes (at + 12) im) r) in
       held im (omega arith) (Component.counter k (record { ends = e; inside = inside }) (record { good = rw f at g })) refl refl
 

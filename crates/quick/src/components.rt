@@ -4,6 +4,7 @@ ghost use Rattle.std.specs.Prelude.{◌≡◌, true, [], ◌+◌, ◌*◌, ◌%�
 ghost use Rattle.laws.specs.Bytes.{byte_at};
 ghost use Rattle.cmf.specs.Readers.{even_from};
 ghost use Rattle.cmf.specs.Layouts.{Aligned, Component};
+ghost use Rattle.acceptance.specs.Check.{padded};
 ghost use Rattle.quick.specs.Accept.{Passes};
 
 use crate::fixed::accept_field;
@@ -12,7 +13,8 @@ use crate::tally::Tally;
 // Whether what is at the first even place from `at` on follows it at once or after a zero byte.
 pub(crate) fn is_padded_to_even(image: &[u8], at: usize) -> bool
     requires { even_from at < length image.now }
-    ensures { result ≡ true → Aligned image.now 0 at (even_from at) }
+    ensures value { result ≡ padded image.now at (even_from at) }
+    ensures aligned { result ≡ true → Aligned image.now 0 at (even_from at) }
 {
     at % 2 == 0 || image[at] == 0
 }

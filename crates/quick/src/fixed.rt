@@ -3,8 +3,9 @@
 ghost use Rattle.std.specs.Prelude.{◌≡◌, true, [], ◌∷◌, ◌+◌, ◌*◌, ◌%◌, ◌<◌, ◌≤◌, ◌⊎◌, length, IfSome};
 ghost use Rattle.laws.specs.Bytes.{byte_at, word_at};
 ghost use Rattle.field.specs.Calendar.{month_end};
-ghost use Rattle.field.specs.Cells.{biased};
+ghost use Rattle.field.specs.Cells.{biased, in_range};
 ghost use Rattle.field.specs.Settings.{step_fits, width_fits};
+ghost use Rattle.field.specs.declared.kind.Kind.TheVariants.{Counter};
 ghost use Rattle.cmf.specs.Layouts.{Component, counter_settings_at, trigger_at};
 ghost use Rattle.quick.specs.Accept.{Held, Passes};
 
@@ -64,6 +65,15 @@ fn counter_settings(image: &[u8], at: usize) -> CounterSettings
     }
 }
 
+// Whether the default of the counter at a place, which has these settings, is in their range.
+fn counter_in_range(image: &[u8], at: usize, s: CounterSettings) -> bool
+    requires { at + 15 ≤ length image.now }
+    ensures { result ≡ in_range (Counter s) (word_at image.now (at + 12)) }
+{
+    let x = biased_in(image, at + 12);
+    s.min <= x && x <= s.max
+}
+
 // Whether the step of a counter is at least 1, as a signed number.
 fn step_fits(s: CounterSettings) -> bool
     ensures { result ≡ step_fits s }
@@ -88,8 +98,7 @@ fn counter_end(image: &[u8], at: usize) -> Option<usize>
         return None;
     }
     let s = counter_settings(image, at);
-    let x = biased_in(image, at + 12);
-    if x < s.min || s.max < x || !step_fits(s) || !width_fits(s) {
+    if !counter_in_range(image, at, s) || !step_fits(s) || !width_fits(s) {
         return None;
     }
     Some(end)
