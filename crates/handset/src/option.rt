@@ -9,7 +9,7 @@ ghost use Rattle.handset.specs.OptionText.{option_text, text_in};
 use acceptance::index::entry_at;
 use cmf::component::read_component;
 use cmf::refusal::Refusal;
-use cmf::text::{item_bytes, item_place};
+use cmf::text::item_place;
 use field::kind::{ImagePlace, Kind};
 use laws::byte_at;
 use walk::check::check;
@@ -70,7 +70,7 @@ pub fn text_place(
     })
 }
 
-// An item's text.
+// An item's text: the part of the image that `text_place` finds.
 pub fn option_text<'a>(
     image: &'a [u8],
     sheet: &[u8],
@@ -81,6 +81,7 @@ pub fn option_text<'a>(
         ≡ text_refusal image.now (length sheet.now) place.0 item }
     ensures text_value { text_in result ≡ option_text image.now (length sheet.now) place.0 item }
 {
-    check_item(image, sheet.len(), place.0, item)?;
-    Ok(item_bytes(image, place.0, item))
+    let found = text_place(image, sheet, place, item)?;
+    let start = found.start.0;
+    Ok(&image[start..start + found.length])
 }

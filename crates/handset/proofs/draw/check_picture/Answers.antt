@@ -1,9 +1,6 @@
 -- The refusal is given where the picture has another length than the display.
-use mathlib.Core.Path.{sym}
 use native.Mathlib.Omega.{arith}
-use borrow.Author.Tests.{eq-eqb, ne_eqb}
 use Rattle.picture.proofs.Filling.{area}
-use Rattle.handset.proofs.Ordering.{holding, failing}
 use Rattle.handset.proofs.draw.check_picture.Goals as goal
 
 pub overflow_mul-columns : goal.overflow_mul-columns

@@ -1,8 +1,6 @@
 -- The shape comes first.
-use mathlib.Core.Path.{sym, ◌∙◌}
-use native.Mathlib.Omega.{arith}
+use mathlib.Core.Path.{sym}
 use Rattle.laws.proofs.Cases.{via}
-use Rattle.handset.specs.Open.{open_refusal}
 use Rattle.handset.proofs.Opening.{shapeless, shaped}
 use Rattle.handset.proofs.open.check_open.Goals as goal
 
