@@ -175,6 +175,7 @@ fn next_part(w: Work, p: Profile) -> Option<u8>
 }
 
 // The chosen part, at most its high end.
+#[tactic(auto, unfolding(crate::specs::Keys::capped))]
 fn cap(w: Work, kind: Kind) -> Work
     ensures { result ≡ capped kind w }
 {
