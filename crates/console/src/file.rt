@@ -1,6 +1,7 @@
 // Files that the arguments name. What cannot be opened, read or written is said in one line on standard
 // error, unless it is read quietly.
 use cmf::image::Image;
+use std::convert::AsSlice;
 use std::env::{Env, FillError};
 use std::fs::Files;
 use std::io::Read;
@@ -61,18 +62,19 @@ fn name_at(rt: &(impl Env + AllocGlobal), i: usize) -> io::Result<Option<String>
     }
 }
 
-// Does something with the file that argument i names. A usage line is said where there is no such name, and
-// what fails is said.
+// Does something with the file that argument i names. A usage line, which may be text or bytes, is said as it
+// is where there is no such name, and what fails is said.
 fn with_named<T, F: FnOnce(&str) -> io::Result<T>>(
     rt: &(impl Env + Eprint + AllocGlobal),
     i: usize,
-    usage: &str,
+    usage: impl AsSlice<u8> + Drop,
     act: F,
 ) -> io::Result<Option<T>>
     requires { F.IsAlwaysCallable act }
 {
     let Some(name) = name_at(rt, i)? else {
-        eprintln!(rt; "{usage}")?;
+        let line = String::from_utf8_lossy(rt.alloc(), usage.as_slice())?;
+        eprint!(rt; "{line}")?;
         return Ok(None);
     };
     match act(name.as_str()) {
@@ -96,17 +98,31 @@ fn open<R: Files + Input>(rt: &R, name: &str) -> io::Result<Source<R::Reader, R:
 pub fn open_named<R: Files + Env + Input + Eprint + AllocGlobal>(
     rt: &R,
     i: usize,
-    usage: &str,
+    usage: impl AsSlice<u8> + Drop,
 ) -> io::Result<Option<Source<R::Reader, R::File>>> {
     with_named(rt, i, usage, |name| open(rt, name))
 }
 
-// Reads a file to its end, or as far as there is room.
+// Reads to the start of a buffer until it is full or the file ends; answers how many bytes came.
+fn read_all(file: &mut impl Read, buffer: &mut [u8]) -> io::Result<usize> {
+    let mut count = 0;
+    while count < buffer.len() {
+        let more = file.read(&mut buffer[count..])?;
+        if more == 0 {
+            break;
+        }
+        count += more;
+    }
+    Ok(count)
+}
+
+// Reads a file to its end, or as far as there is room. Each read asks for all the room that is left: what
+// gives a packet a read, as a pipe can, drops the rest of one that is longer.
 fn read(rt: &(impl Files + AllocGlobal), name: &str, room: usize) -> io::Result<Vec<u8>> {
-    let mut bytes = Vec::new(rt.alloc());
-    fs::open(rt, name)?
-        .take(room as u64)
-        .read_to_end(&mut bytes)?;
+    let mut file = fs::open(rt, name)?;
+    let mut bytes = vec![in rt.alloc(); 0u8; room]?;
+    let count = read_all(&mut file, &mut bytes)?;
+    bytes.truncate(count);
     Ok(bytes)
 }
 
@@ -115,7 +131,7 @@ pub fn read_named(
     rt: &(impl Files + Env + Eprint + AllocGlobal),
     i: usize,
     room: usize,
-    usage: &str,
+    usage: impl AsSlice<u8> + Drop,
 ) -> io::Result<Option<Vec<u8>>> {
     with_named(rt, i, usage, |name| read(rt, name, room))
 }
@@ -135,7 +151,7 @@ pub fn write_named(
     rt: &(impl Files + Env + Eprint + AllocGlobal),
     i: usize,
     bytes: &[u8],
-    usage: &str,
+    usage: impl AsSlice<u8> + Drop,
 ) -> io::Result<()> {
     with_named(rt, i, usage, |name| fs::write(rt, name, bytes))?;
     Ok(())

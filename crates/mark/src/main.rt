@@ -15,7 +15,7 @@ use std::io;
 // One byte more than a sheet may have, so that a longer file is refused.
 const SHEET_ROOM: usize = Image::MAX_SHEET + 1;
 
-const USAGE: &str = "usage: mark IMAGE SHEET KEY";
+const USAGE: &str = "usage: mark IMAGE SHEET KEY\n";
 
 fn main(rt: HostRuntime) -> io::Result<()> {
     let Some(image) = read_named(&rt, 1, IMAGE_ROOM, USAGE)? else {

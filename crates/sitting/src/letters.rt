@@ -64,13 +64,13 @@ impl Sitting<'_> {
         Ok(())
     }
 
-    // Plays the keys one by one, and says so where some are left.
+    // Plays the keys one by one, and says so where some are left. What they come from stays open.
     pub fn play_all(
         &mut self,
         rt: &(impl Print + Eprint + Alloc),
-        keys: impl Read + Drop,
+        keys: &mut impl Read,
     ) -> io::Result<()> {
-        let mut letters = keys.bytes();
+        let mut letters = keys.by_ref().bytes();
         let mut last = NEWLINE;
         for _ in 0..MOST {
             match letters.next() {

@@ -19,13 +19,13 @@ use std::fs::Files;
 use std::io;
 use std::io::Read;
 
-const USAGE: &str = "usage: sitting IMAGE [KEYS [RECORD]]";
+const USAGE: &str = "usage: sitting IMAGE [KEYS [RECORD]]\n";
 
 // Plays keys on an image, and prints what comes of it.
 fn sit(
     rt: &(impl Files + Env + Print + Eprint + AllocGlobal),
     image: &[u8],
-    keys: impl Read + Drop,
+    keys: &mut impl Read,
 ) -> io::Result<()> {
     let mut sheet = vec![in rt.alloc(); 0u8; Image::MAX_SHEET]?;
     let opened = open(image, &mut sheet, COLUMNS, LINES);
@@ -59,8 +59,8 @@ fn main(rt: HostRuntime) -> io::Result<()> {
     let Some(image) = read_named(&rt, 1, IMAGE_ROOM, USAGE)? else {
         return Ok(());
     };
-    let Some(keys) = keys_from(&rt)? else {
+    let Some(mut keys) = keys_from(&rt)? else {
         return Ok(());
     };
-    sit(&rt, &image, keys)
+    sit(&rt, &image, &mut keys)
 }

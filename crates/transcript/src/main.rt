@@ -17,7 +17,7 @@ use std::io;
 // more, so that a longer file is refused.
 const RECORD_ROOM: usize = 3 * (MAX_EVENTS + 2) + 1;
 
-const USAGE: &str = "usage: transcript IMAGE RECORD";
+const USAGE: &str = "usage: transcript IMAGE RECORD\n";
 
 // The events of a record that was not refused: the bytes from the first of them on.
 fn events_of(recorded: &[u8]) -> &[u8] {
