@@ -4,5 +4,7 @@
 use std::io;
 
 fn main(rt: HostRuntime) -> io::Result<()> {
-    runner::run_cases(&rt)
+    let mut image = [0u8; runner::ROOM];
+    let mut sheet = [0u8; runner::ROOM];
+    runner::run_cases(&rt, &mut image, &mut sheet)
 }

@@ -67,7 +67,7 @@ impl TryFrom<u8> for Operation {
 }
 
 // Room for what a case tells the length of in two bytes: an image, a sheet or a record.
-const ROOM: usize = 65536;
+pub const ROOM: usize = 65536;
 
 // The longest picture that a case can have.
 const PICTURE: usize = 256;
@@ -98,7 +98,7 @@ impl Case<'_, '_> {
         (self.item % 256) as u8
     }
 
-    fn run(&mut self, rt: &(impl Input + Print + AllocGlobal), op: Operation) -> io::Result<()> {
+    fn run(&mut self, rt: &(impl Input + Print), op: Operation) -> io::Result<()> {
         match op {
             Operation::Check => self.check(rt),
             Operation::Text => self.text(rt),
@@ -165,46 +165,44 @@ impl Case<'_, '_> {
 
 // One case: its operation, the length of its name and the name; lengths of image and sheet, place and item,
 // two bytes each; the image. False at the end of the input. The cases share the room for image and sheet: an
-// input that ends too soon leaves in it what was there.
-fn run_case(
-    rt: &(impl Input + Print + AllocGlobal),
-    image: &mut [u8; ROOM],
-    sheet: &mut [u8; ROOM],
-) -> io::Result<bool> {
+// input that ends too soon leaves in it what was there. What has no room is not read, and such a case not run.
+fn run_case(rt: &(impl Input + Print), image: &mut [u8], sheet: &mut [u8]) -> io::Result<bool> {
     let mut head = [0u8; 2];
     if !read_full(rt, &mut head)? {
         return Ok(false);
     }
     let [number, name_length] = head;
-    let name = &mut image[..name_length as usize];
-    read_full(rt, name)?;
-    rt.write_all(name)?;
+    if let Some(name) = image.get_mut(..name_length as usize) {
+        read_full(rt, name)?;
+        rt.write_all(name)?;
+    }
     print!(rt; ": ")?;
     let length = read_word(rt)? as usize;
     let room = read_word(rt)? as usize;
     let place = read_word(rt)?;
     let item = read_word(rt)?;
-    let image = &mut image[..length];
-    read_full(rt, image)?;
-    if let Ok(op) = Operation::try_from(number) {
-        let mut case = Case {
-            image,
-            sheet: &mut sheet[..room],
-            place,
-            item,
-        };
-        case.run(rt, op)?;
+    if let Some(image) = image.get_mut(..length) {
+        read_full(rt, image)?;
+        if let Some(sheet) = sheet.get_mut(..room) {
+            if let Ok(op) = Operation::try_from(number) {
+                let mut case = Case {
+                    image,
+                    sheet,
+                    place,
+                    item,
+                };
+                case.run(rt, op)?;
+            }
+        }
     }
     println!(rt)?;
     Ok(true)
 }
 
-// Runs the cases one by one.
-pub fn run_cases(rt: &(impl Input + Print + AllocGlobal)) -> io::Result<()> {
-    let mut image = [0u8; ROOM];
-    let mut sheet = [0u8; ROOM];
+// Runs the cases one by one; image and sheet are room for those of a case.
+pub fn run_cases(rt: &(impl Input + Print), image: &mut [u8], sheet: &mut [u8]) -> io::Result<()> {
     for _ in 0..MOST {
-        if !run_case(rt, &mut image, &mut sheet)? {
+        if !run_case(rt, image, sheet)? {
             break;
         }
     }

@@ -10,17 +10,18 @@ const MOST: usize = 1024;
 impl Case<'_, '_> {
     // The input goes on with the sheet's bytes and the key, its count of numbers before it, two bytes each:
     // the sums, after a 0, or the refusal.
-    pub fn mark(&mut self, rt: &(impl Input + Print + AllocGlobal)) -> io::Result<()> {
+    pub fn mark(&mut self, rt: &(impl Input + Print)) -> io::Result<()> {
         read_full(rt, self.sheet)?;
         let count = read_word(rt)? as usize;
         if count > MOST {
             return Ok(());
         }
-        let mut key = Vec::new(rt.alloc());
-        for _ in 0..count {
-            key.push(read_word(rt)?)?;
+        let mut numbers = [0u16; MOST];
+        let key = &mut numbers[..count];
+        for number in key.iter_mut() {
+            *number = read_word(rt)?;
         }
-        match mark(self.image, self.sheet, &key) {
+        match mark(self.image, self.sheet, key) {
             Ok(sums) => print!(rt; "0 {} {} {}", sums.right, sums.wrong, sums.blank),
             Err(refusal) => print!(rt; "{}", refusal.number()),
         }

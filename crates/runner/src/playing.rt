@@ -47,12 +47,13 @@ impl Case<'_, '_> {
     // The input goes on with the events, their count before them in two bytes: Open's refusal, each event's
     // answer on the session and sheet that the one before it left, the sheet afterwards, and what Draw then
     // answers.
-    pub fn play(&mut self, rt: &(impl Input + Print + AllocGlobal)) -> io::Result<()> {
-        let events = read_list(rt, MOST)?;
+    pub fn play(&mut self, rt: &(impl Input + Print)) -> io::Result<()> {
+        let mut room = [0u8; MOST];
+        let events = read_list(rt, &mut room)?;
         let opened = self.opened();
         print!(rt; "{} ", opened.refusal)?;
         let mut session = opened.session;
-        for number in &events {
+        for number in events {
             session = self.play_one(rt, session, *number)?;
         }
         self.print_end(rt, session)

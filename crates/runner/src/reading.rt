@@ -22,15 +22,17 @@ pub fn read_word(rt: &impl Input) -> io::Result<u16> {
     Ok(word_at(&bytes, 0))
 }
 
-// The bytes of a list, with their count before them. A list of more than so many is not read, and is empty.
-pub fn read_list(rt: &(impl Input + AllocGlobal), most: usize) -> io::Result<Vec<u8>> {
+// The bytes of a list, with their count before them, in room for them. A list that has no room is not read,
+// and is empty.
+pub fn read_list<'a>(rt: &impl Input, room: &'a mut [u8]) -> io::Result<&'a [u8]> {
     let count = read_word(rt)? as usize;
-    if count > most {
-        return Ok(Vec::new(rt.alloc()));
+    match room.get_mut(..count) {
+        Some(bytes) => {
+            read_full(rt, bytes)?;
+            Ok(bytes)
+        }
+        None => Ok(&[]),
     }
-    let mut bytes = vec![in rt.alloc(); 0u8; count]?;
-    read_full(rt, &mut bytes)?;
-    Ok(bytes)
 }
 
 // The session that the input gives, as `session_bytes` lays it out.

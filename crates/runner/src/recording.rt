@@ -28,25 +28,20 @@ impl Case<'_, '_> {
     // record; all of it is read, so that the next case begins where it should, whatever is refused. Printed
     // are the refusal, the number of events, every entry of the list, also those that must stay, the sheet
     // afterwards, and what Draw then answers.
-    pub fn replay(&mut self, rt: &(impl Input + Print + AllocGlobal)) -> io::Result<()> {
+    pub fn replay(&mut self, rt: &(impl Input + Print)) -> io::Result<()> {
         let count = read_word(rt)? as usize;
-        let recorded = read_list(rt, ROOM)?;
+        let mut record_room = [0u8; ROOM];
+        let recorded = read_list(rt, &mut record_room)?;
         if count > MOST {
             return Ok(());
         }
-        let mut answers = vec![in rt.alloc(); UNPLAYED; count]?;
+        let mut entries = [UNPLAYED; MOST];
+        let answers = &mut entries[..count];
         let (columns, lines) = (self.columns(), self.lines());
         self.sheet.fill(UNWRITTEN);
-        let replayed = play(
-            self.image,
-            self.sheet,
-            columns,
-            lines,
-            &recorded,
-            &mut answers,
-        );
+        let replayed = play(self.image, self.sheet, columns, lines, recorded, answers);
         print!(rt; "{} {} ", replayed.refusal, replayed.events)?;
-        for number in &answers {
+        for number in &*answers {
             print!(rt; "{number} ")?;
         }
         self.print_end(rt, replayed.session)
