@@ -90,10 +90,10 @@ number_same (Err r) = refl
 module _ (im sheet key : List ℕ) (k : ℕ) (q : k ≡ refusal_of im (length sheet)) where
   -- an answer has its number
   abbrev Answers : Result Sums Refusal → Type 0
-  Answers r = (as_marked r ≡ marked im sheet key) × (refusals.refusal_in r ≡ mark_refusal im (length sheet) key)
+  Answers r = (as_marked r ≡ marked im sheet key) × (refusal_in (as_marked r) ≡ mark_refusal im (length sheet) key) × (refusals.refusal_in r ≡ mark_refusal im (length sheet) key)
 
   with_number : (r : Result Sums Refusal) → as_marked r ≡ marked im sheet key → Answers r
-  with_number r e = (e, number_same r ∙ number_told im sheet key (as_marked r) e)
+  with_number r e = (e, number_told im sheet key (as_marked r) e, number_same r ∙ number_told im sheet key (as_marked r) e)
 
   -- the answer where r is the refusal
   refused_with_lem : (r : Refusal) → mark_refusal im (length sheet) key ≡ number r → Answers (Err r)

@@ -4,6 +4,7 @@ ghost use Rattle.laws.specs.Bytes.{byte_at};
 ghost use Rattle.cmf.specs.Limits.{most_fields};
 ghost use Rattle.cmf.specs.Refusals.{refusal_in};
 ghost use Rattle.handset.specs.Refusals.{◌unless◌};
+ghost use Rattle.marker.specs.Marking as answers;
 ghost use Rattle.marker.specs.Marking.{most_points, verdict_of, mark_refusal, as_marked, marked};
 ghost use Rattle.marker.specs.Table.{open_in, fits_by, no_points, sum_in, counted, marked_all};
 
@@ -109,6 +110,8 @@ fn mark_all(table: &mut [u16], sheet: &[u8], key: &[u16]) -> Result<Sums, Refusa
 // The refusal of image and sheet, then that of the key, or the sums.
 pub fn mark(image: &[u8], sheet: &[u8], key: &[u16]) -> Result<Sums, Refusal>
     ensures value { as_marked result ≡ marked image.now sheet.now key.now }
+    ensures result_value { answers.refusal_in (as_marked result)
+        ≡ mark_refusal image.now (length sheet.now) key.now }
     ensures refusal_value { refusal_in result
         ≡ mark_refusal image.now (length sheet.now) key.now }
 {

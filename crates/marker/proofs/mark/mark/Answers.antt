@@ -10,7 +10,7 @@ pub returns-in_err-fields : goal.returns-in_err-fields
 returns-in_err-fields c =
     let p = err_from_is_err_and c.from_residual.result c.from_residual.ensures.1 in
     let told = image_refused c.args.image.now c.args.sheet.now c.args.key.now _ c.in_err-fields.ensures.refusal_value c.in_err-fields.field-0.0 refl in
-    record { value = rw (p.1, p.2) told.0; refusal_value = rw (p.1, p.2) told.1 }
+    record { value = rw (p.1, p.2) told.0; result_value = rw (p.1, p.2) told.1; refusal_value = rw (p.1, p.2) told.2 }
 
 pub split_at-requires : goal.split_at-requires
 split_at-requires c =
@@ -27,4 +27,4 @@ unfolding fit
 returns c =
     let f = c.in_ok-fields.ensures in
     let told = answered c.args.image.now c.args.sheet.now c.args.key.now _ f.refusal_value refl _ _ _ _ f.fields_value.0 f.fields_value.1 refl (rw c.split_at.ensures.front at c.enter_all.ensures) _ c.mark_all.ensures in
-    record { value = told.0; refusal_value = told.1 }
+    record { value = told.0; result_value = told.1; refusal_value = told.2 }
