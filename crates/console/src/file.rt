@@ -103,7 +103,8 @@ pub fn open_named<R: Files + Env + Input + Eprint + AllocGlobal>(
     with_named(rt, i, usage, |name| open(rt, name))
 }
 
-// Reads to the start of a buffer until it is full or the file ends; answers how many bytes came.
+// Reads to the start of a buffer until it is full or the file ends; answers how many bytes came. Each read asks
+// for all the room that is left: what gives a packet a read, as a pipe can, drops the rest of a longer one.
 fn read_all(file: &mut impl Read, buffer: &mut [u8]) -> io::Result<usize> {
     let mut count = 0;
     while count < buffer.len() {
@@ -116,14 +117,10 @@ fn read_all(file: &mut impl Read, buffer: &mut [u8]) -> io::Result<usize> {
     Ok(count)
 }
 
-// Reads a file to its end, or as far as there is room. Each read asks for all the room that is left: what
-// gives a packet a read, as a pipe can, drops the rest of one that is longer.
-fn read(rt: &(impl Files + AllocGlobal), name: &str, room: usize) -> io::Result<Vec<u8>> {
+// Reads a file to the start of a buffer; answers how many bytes came.
+fn read(rt: &impl Files, name: &str, buffer: &mut [u8]) -> io::Result<usize> {
     let mut file = fs::open(rt, name)?;
-    let mut bytes = vec![in rt.alloc(); 0u8; room]?;
-    let count = read_all(&mut file, &mut bytes)?;
-    bytes.truncate(count);
-    Ok(bytes)
+    read_all(&mut file, buffer)
 }
 
 // Reads the file that argument i names, as far as there is room.
@@ -133,13 +130,21 @@ pub fn read_named(
     room: usize,
     usage: impl AsSlice<u8> + Drop,
 ) -> io::Result<Option<Vec<u8>>> {
-    with_named(rt, i, usage, |name| read(rt, name, room))
+    let mut bytes = vec![in rt.alloc(); 0u8; room]?;
+    match with_named(rt, i, usage, |name| read(rt, name, &mut bytes))? {
+        Some(count) => {
+            bytes.truncate(count);
+            Ok(Some(bytes))
+        }
+        None => Ok(None),
+    }
 }
 
 // The same, and nothing is said: what is missing or fails is empty.
 pub fn read_named_quietly(rt: &(impl Files + Env + AllocGlobal), i: usize, room: usize) -> Vec<u8> {
-    if let Ok(Some(name)) = name_at(rt, i) {
-        if let Ok(bytes) = read(rt, name.as_str(), room) {
+    if let (Ok(Some(name)), Ok(mut bytes)) = (name_at(rt, i), vec![in rt.alloc(); 0u8; room]) {
+        if let Ok(count) = read(rt, name.as_str(), &mut bytes) {
+            bytes.truncate(count);
             return bytes;
         }
     }
