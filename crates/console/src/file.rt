@@ -103,8 +103,9 @@ pub fn open_named<R: Files + Env + Input + Eprint + AllocGlobal>(
     with_named(rt, i, usage, |name| open(rt, name))
 }
 
-// Reads to the start of a buffer until it is full or the file ends; answers how many bytes came. Each read asks
-// for all the room that is left: what gives a packet a read, as a pipe can, drops the rest of a longer one.
+// Reads to the start of a buffer until it is full or the file ends; answers how many bytes came. Each read
+// asks for all the room that is left: what gives a packet a read, as a pipe can, drops the rest of one that is
+// longer.
 fn read_all(file: &mut impl Read, buffer: &mut [u8]) -> io::Result<usize> {
     let mut count = 0;
     while count < buffer.len() {
