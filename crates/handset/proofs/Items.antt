@@ -10,12 +10,11 @@ use borrow.Author.Tests.{eqb-true, ltb-true, ltb-false}
 use Rattle.laws.specs.Choice.{when◌then◌else◌, ◌=?◌, ◌<?◌}
 use Rattle.laws.specs.Bytes.{byte_at}
 use Rattle.laws.specs.Parts.{part_at}
-use Rattle.laws.proofs.Cases.{if_ind, by_test, if_true, if_lt, if_ge, and_l, and_r}
-use Rattle.laws.proofs.Rooms.{le_room}
+use Rattle.laws.proofs.Cases.{if_ind, by_test, if_lt, if_ge, and_l, and_r}
 use Rattle.field.specs.declared.record.Field.{Field}
 use Rattle.cmf.specs.Layouts.{Texts, Component}
 use Rattle.cmf.specs.Grammar.{Every, WellFormed}
-use Rattle.cmf.specs.Readers.{item_from, item_place, text_bytes, component_at}
+use Rattle.cmf.specs.Readers.{item_from, item_place, component_at}
 use Rattle.cmf.specs.Places.{field_places, is_in}
 use Rattle.cmf.proofs.Agreeing.{agree}
 use Rattle.acceptance.specs.Check.{refusal_of}
@@ -164,13 +163,6 @@ module _ (im : List ℕ) (extent place item : ℕ) {t : TextPlace} (e : t ≡ te
 
   pub shown_refusal : t.refusal ≡ text_refusal im extent place item
   shown_refusal = rw e (place_refusal im extent place item)
-
--- the bytes of the item's text are those that the call answers
-pub item_text : (im : List ℕ) (extent place item : ℕ) → text_refusal im extent place item ≡ 0
-    → text_bytes im (item_place im place item) ≡ option_text im extent place item
-unfolding text_bytes option_text
-item_text im extent place item z =
-    if_true _ _ (le_room (length im) _ _ (omega (arith, item_inside im extent place item z))) ∙ rw (place_some im extent place item z)
 
 -- texts come no earlier than the first
 from_on : (im : List ℕ) (k at : ℕ) → at ≤ item_from im k at
