@@ -1,5 +1,7 @@
 // Files that the arguments name. What cannot be opened, read or written is said in one line on standard
 // error, unless it is read quietly.
+ghost use Rattle.std.specs.Prelude.{◌≡◌, ◌+◌, ◌≤◌, min, take, OnOk, IfOk, vec_len};
+
 use cmf::image::Image;
 use std::convert::AsSlice;
 use std::env::{Env, FillError};
@@ -12,6 +14,14 @@ pub const IMAGE_ROOM: usize = Image::MAX_BYTES + 1;
 
 // The most bytes of an argument that names a file.
 const MAX_NAME: usize = 4096;
+
+// The largest room that is taken whole before it is known how much comes: none of the programs for people has
+// a larger.
+const WHOLE: usize = 1 << 18;
+
+// The most that a pipe in packet mode gives at one read: a page, which has no more on the machines that this
+// is built for.
+const PACKET: usize = 1 << 16;
 
 // What bytes are read from one by one: standard input, or an opened file.
 #[derive(Drop)]
@@ -103,13 +113,44 @@ pub fn open_named<R: Files + Env + Input + Eprint + AllocGlobal>(
     with_named(rt, i, usage, |name| open(rt, name))
 }
 
-// Reads to the start of a buffer until it is full or the file ends; answers how many bytes came. Each read
-// asks for all the room that is left: what gives a packet a read, as a pipe can, drops the rest of one that is
-// longer.
-fn read_all(file: &mut impl Read, buffer: &mut [u8]) -> io::Result<usize> {
+// What is taken of so much room before the file is opened: all of it, or nothing yet.
+fn first_room(room: usize) -> usize
+    ensures { result ≤ room }
+{
+    if room <= WHOLE { room } else { 0 }
+}
+
+// Makes room for the next read, behind so many bytes: all that is left, or at least that for a packet. What
+// is there doubles, where memory allows it, so that a long file is not copied at each read.
+fn make_room(bytes: &mut Vec<u8>, count: usize, room: usize) -> io::Result<()>
+    ensures made { OnOk result (min room (count + PACKET) ≤ vec_len bytes.new) }
+    ensures kept { vec_len bytes.old ≤ vec_len bytes.new }
+    ensures stays { take (vec_len bytes.old) bytes.new.items ≡ bytes.old.items }
+    ensures within { vec_len bytes.old ≤ room → vec_len bytes.new ≤ room }
+{
+    let least = room.min(count.saturating_add(PACKET));
+    if bytes.len() < least {
+        let mut next = room.min(least.max(bytes.len().saturating_mul(2)));
+        if bytes.reserve_exact(next - bytes.len()).is_err() {
+            next = least;
+            bytes.reserve_exact(next - bytes.len())?;
+        }
+        bytes.resize(next, 0)?;
+    }
+    Ok(())
+}
+
+// Reads to the start of a Vec until the file ends or there is no more room; answers how many bytes came. Each
+// read asks for all the room that the Vec has left: what gives a packet a read, as a pipe can, drops the rest
+// of one that is longer.
+fn read_all(file: &mut impl Read, bytes: &mut Vec<u8>, room: usize) -> io::Result<usize>
+    ensures inside { IfOk result (λ count. count ≤ vec_len bytes.new) }
+    ensures within { vec_len bytes.old ≤ room → vec_len bytes.new ≤ room }
+{
     let mut count = 0;
-    while count < buffer.len() {
-        let more = file.read(&mut buffer[count..])?;
+    while count < room {
+        make_room(bytes, count, room)?;
+        let more = file.read(&mut bytes[count..])?;
         if more == 0 {
             break;
         }
@@ -118,10 +159,12 @@ fn read_all(file: &mut impl Read, buffer: &mut [u8]) -> io::Result<usize> {
     Ok(count)
 }
 
-// Reads a file to the start of a buffer; answers how many bytes came.
-fn read(rt: &impl Files, name: &str, buffer: &mut [u8]) -> io::Result<usize> {
+// Reads a file, as far as there is room, into a Vec that has all of that room or none yet.
+fn read(rt: &impl Files, name: &str, room: usize, bytes: &mut Vec<u8>) -> io::Result<()> {
     let mut file = fs::open(rt, name)?;
-    read_all(&mut file, buffer)
+    let count = read_all(&mut file, bytes, room)?;
+    bytes.truncate(count);
+    Ok(())
 }
 
 // Reads the file that argument i names, as far as there is room.
@@ -131,21 +174,16 @@ pub fn read_named(
     room: usize,
     usage: impl AsSlice<u8> + Drop,
 ) -> io::Result<Option<Vec<u8>>> {
-    let mut bytes = vec![in rt.alloc(); 0u8; room]?;
-    match with_named(rt, i, usage, |name| read(rt, name, &mut bytes))? {
-        Some(count) => {
-            bytes.truncate(count);
-            Ok(Some(bytes))
-        }
-        None => Ok(None),
-    }
+    let mut bytes = vec![in rt.alloc(); 0u8; first_room(room)]?;
+    let found = with_named(rt, i, usage, |name| read(rt, name, room, &mut bytes))?;
+    Ok(found.map(|_| bytes))
 }
 
 // The same, and nothing is said: what is missing or fails is empty.
 pub fn read_named_quietly(rt: &(impl Files + Env + AllocGlobal), i: usize, room: usize) -> Vec<u8> {
-    if let (Ok(Some(name)), Ok(mut bytes)) = (name_at(rt, i), vec![in rt.alloc(); 0u8; room]) {
-        if let Ok(count) = read(rt, name.as_str(), &mut bytes) {
-            bytes.truncate(count);
+    let first = first_room(room);
+    if let (Ok(Some(name)), Ok(mut bytes)) = (name_at(rt, i), vec![in rt.alloc(); 0u8; first]) {
+        if let Ok(()) = read(rt, name.as_str(), room, &mut bytes) {
             return bytes;
         }
     }
